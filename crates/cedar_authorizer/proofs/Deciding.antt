@@ -7,7 +7,7 @@ use Rattle.cedar_model.specs.Outcomes.{has_text}
 use Rattle.cedar_model.specs.World.{Functions}
 use Rattle.cedar_model.specs.Failures.{Failure}
 use Rattle.cedar_model.specs.Settings.{Setting}
-use Rattle.cedar_model.specs.LevelLaws.{FunctionsMeetNoLimit}
+use Rattle.cedar_model.specs.laws.Levels.{FunctionsMeetNoLimit}
 use Rattle.cedar_model.specs.Rules.{StoredCalls}
 use Rattle.cedar_model.specs.Agreement.{AgreesWithFunctions, HasNothingUnknown, own_world}
 use Rattle.cedar_model.specs.Restricted.{IsGivenSound}
@@ -16,7 +16,7 @@ use Rattle.cedar_model.specs.Reordering.{IsReordering}
 use Rattle.cedar_model.specs.Responses.{Row}
 use Rattle.cedar_model.specs.Chains.{rows_by}
 use Rattle.cedar_model.specs.Authorizations.{Authorized, IsResponse, HaveNoLimit, HaveKnownConditions, HaveKinds, policy_errors}
-use Rattle.cedar_model.specs.AuthorizationLaws.{PolicyRuns}
+use Rattle.cedar_model.specs.laws.Authorizations.{PolicyRuns}
 use Rattle.cedar_model.specs.Reports.{some_row, ids, trues, falses, residuals, given_decision, concrete_decision, residual_error, concrete_errors, concretized, HaveNoResidual}
 use Rattle.cedar_model.proofs.Chained.{sorted_is}
 use Rattle.cedar_model.proofs.Concrete.{run_is_response}

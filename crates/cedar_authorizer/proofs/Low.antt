@@ -17,7 +17,7 @@ use Rattle.cedar_model.specs.Refusals.{concrete_context, context_by, context_bes
 use Rattle.cedar_model.specs.Chains.{Mapping, Response, substituted_at, rows_by, all_residuals, at_step, without_map, SubstitutesTo, StepsTo}
 use Rattle.cedar_model.specs.Policies.{permit, forbid}
 use Rattle.cedar_model.specs.Authorizations.{HaveNoLimit, AreNoHigher}
-use Rattle.cedar_model.specs.LevelLaws.{FunctionsMeetNoLimit}
+use Rattle.cedar_model.specs.laws.Levels.{FunctionsMeetNoLimit}
 use Rattle.cedar_model.specs.Depth.{IsNoHigher, IsContextNoHigher, ContextFollows, bound_of}
 use Rattle.cedar_model.proofs.Completions.{concrete_parts}
 use Rattle.cedar_model.proofs.Heights.{stays, sound_known}

@@ -15,9 +15,9 @@ use Rattle.cedar_model.specs.Refusals.{Refusal, context_fails}
 use Rattle.cedar_model.specs.Chains.{Mapping, Response, substituted, substituted_at, at_step, all_residuals}
 use Rattle.cedar_model.specs.Terms.{Text, Fields, record_of}
 use Rattle.cedar_layers.specs.Policies.{PolicyView, decides_as}
-use Rattle.cedar_model.specs.ReportLaws.{Within}
+use Rattle.cedar_model.specs.laws.Reports.{Within}
 use Rattle.cedar_model.specs.Depth.{IsContextNoHigher}
-use Rattle.cedar_model.specs.LevelLaws.{FunctionsMeetNoLimit}
+use Rattle.cedar_model.specs.laws.Levels.{FunctionsMeetNoLimit}
 use Rattle.cedar_model.specs.Authorizations.{HaveNoLimit}
 use Rattle.cedar_model.specs.Reports.{ids, must_determine, may_determine, trues, falses, residuals}
 use Rattle.cedar_model.proofs.Chained.{sorted_is, step_stands}

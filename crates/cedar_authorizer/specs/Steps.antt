@@ -14,11 +14,11 @@ use Rattle.cedar_model.specs.Configurations.{Configuration}
 use Rattle.cedar_model.specs.Responses.{Stand}
 use Rattle.cedar_model.specs.Refusals.{Refusal, mode_is_other, context_fails}
 use Rattle.cedar_model.specs.Chains.{Mapping, Response, at_step, all_residuals, is_same_mode, Steps, StepsTo}
-use Rattle.cedar_model.specs.ChainLaws.{KeepsWhatIsGiven}
+use Rattle.cedar_model.specs.laws.Chains.{KeepsWhatIsGiven}
 use Rattle.cedar_model.specs.Depth.{IsNoHigher}
 use Rattle.cedar_model.specs.Authorizations.{HaveNoLimit, AreNoHigher}
 use Rattle.cedar_model.specs.Reports.{HaveNoResidual}
-use Rattle.cedar_model.specs.ReportLaws.{AreDecidedAs}
+use Rattle.cedar_model.specs.laws.Reports.{AreDecidedAs}
 use Rattle.cedar_model.specs.Progress.{NamesAll, LeavesNoResidual}
 use Rattle.cedar_values.specs.Sound.{Placed}
 use Rattle.cedar_layers.specs.declared.policies.entities.Entities.{Entities}

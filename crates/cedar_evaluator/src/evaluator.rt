@@ -1,7 +1,7 @@
 //! The evaluator: what an expression is, and what a policy decides, for one request over one store.
 ghost use Rattle.std.specs.Prelude.{◌≡◌, ◌≢◌, ℕ, Option, None, true, Err, IfOk};
 ghost use Rattle.cedar_model.specs.Failures.{fails, out_of_memory};
-ghost use Rattle.cedar_model.specs.RestrictedLaws.{HoldsUnknown};
+ghost use Rattle.cedar_model.specs.laws.Restricted.{HoldsUnknown};
 ghost use Rattle.cedar_model.specs.Responses.{errs_with, decided, result_of};
 ghost use Rattle.cedar_model.specs.Settings.{shallow};
 ghost use Rattle.cedar_model.specs.Shapes.{has_unknown};

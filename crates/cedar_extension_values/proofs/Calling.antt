@@ -12,7 +12,7 @@ use Rattle.cedar_model.specs.World.{World, Slots, Extensions, Functions, functio
 use Rattle.cedar_model.specs.Agreement.{AllFaithful, IsFaithful, AreFaithful, AreFaithfulAt, IsKnown, AreKnown}
 use Rattle.cedar_model.specs.Agreement.{AreKnownAt}
 use Rattle.cedar_model.specs.Meaning.{meanings, meaning, call_meaning, function_meaning, and_then_all, value_then}
-use Rattle.cedar_model.specs.MeaningLaws.{WrittenValuesMean}
+use Rattle.cedar_model.specs.laws.Soundness.{WrittenValuesMean}
 use Rattle.cedar_extension_values.specs.Faithful.{terms_of}
 
 same : (n : ℕ) → (n == n) ≡ true

@@ -16,9 +16,9 @@ use Rattle.cedar_model.specs.Failures.{answers_residual, limit, wrong_type}
 use Rattle.cedar_model.specs.Operators.{expecting}
 use Rattle.cedar_model.specs.Agreement.{failure_answer, function_answer}
 use Rattle.cedar_model.specs.Alike.{AreAlike, AreFunctional}
-use Rattle.cedar_model.specs.LevelLaws.{FunctionsMeetNoLimit, FunctionsFindMemory}
+use Rattle.cedar_model.specs.laws.Levels.{FunctionsMeetNoLimit, FunctionsFindMemory}
 use Rattle.cedar_model.specs.Restricted.{IsSoundPart}
-use Rattle.cedar_model.specs.RestrictedLaws.{HoldsUnknown}
+use Rattle.cedar_model.specs.laws.Restricted.{HoldsUnknown}
 use Rattle.cedar_names.specs.Leaves.{type_view}
 use Rattle.cedar_values.specs.Sound.{Placed}
 use Rattle.cedar_errors.specs.Failures.{failure_of, lookup_failure, overflow_failure}

@@ -6,7 +6,7 @@ use Rattle.cedar_model.specs.Values.{Represented, abstract_value}
 use Rattle.cedar_model.specs.Outcomes.{bool_of}
 use Rattle.cedar_model.specs.Operators.{unary_answer, expecting}
 use Rattle.cedar_model.specs.Failures.{PartialValue, value, residual, Answer, answers, answers_bool, answers_residual, wrong_type}
-use Rattle.cedar_model.specs.Rules.{MayAnswer, AfterGuard, TakesBranch, AndLeft, OrLeft, AfterBest, best, joined, bool_expected, bool_or_failure, on_part}
+use Rattle.cedar_model.specs.Rules.{MayAnswer, AfterGuard, TakesBranch, AndLeft, OrLeft, AfterBest, best, joined, bool_expected, bool_or_failure, on_part, Then}
 use Rattle.cedar_values.specs.Residuals.{partial_term}
 use Rattle.cedar_operators.specs.declared.partial.connectives.Connective.{Connective}
 use Rattle.cedar_operators.specs.declared.partial.connectives.Connective.TheVariants as connectives
@@ -33,11 +33,11 @@ negates (residual r) b h = absurd (cc)
 
 module _ (May : MayAnswer) where
   -- a guard that is a boolean takes its branch
-  pub guard_true : (p : PartialValue) (t e : Term) (a : Answer) → part_bool p ≡ Some true → May t a → AfterGuard May (answers p) t e a
+  pub guard_true : (p : PartialValue) (t e : Term) (a : Answer) → part_bool p ≡ Some true → May t a → Then (answers p) (AfterGuard May t e) a
   guard_true (value v) t e a h runs = subst (λ o. TakesBranch May o v t e a) (sym h) runs
   guard_true (residual r) t e a h runs = absurd (cc)
 
-  pub guard_false : (p : PartialValue) (t e : Term) (a : Answer) → part_bool p ≡ Some false → May e a → AfterGuard May (answers p) t e a
+  pub guard_false : (p : PartialValue) (t e : Term) (a : Answer) → part_bool p ≡ Some false → May e a → Then (answers p) (AfterGuard May t e) a
   guard_false (value v) t e a h runs = subst (λ o. TakesBranch May o v t e a) (sym h) runs
   guard_false (residual r) t e a h runs = absurd (cc)
 

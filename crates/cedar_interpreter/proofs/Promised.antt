@@ -8,7 +8,7 @@ use Rattle.cedar_model.specs.Settings.{Setting}
 use Rattle.cedar_model.specs.Rules.{StoredCalls, Runs, Meets, Exceeds}
 use Rattle.cedar_model.specs.Agreement.{height}
 use Rattle.cedar_model.specs.Depth.{bound_of}
-use Rattle.cedar_model.specs.LevelLaws.{FunctionsMeetNoLimit}
+use Rattle.cedar_model.specs.laws.Levels.{FunctionsMeetNoLimit}
 use Rattle.cedar_model.specs.Restricted.{IsGivenSound}
 use Rattle.cedar_model.proofs.Determined.{limit_alone}
 use Rattle.cedar_model.proofs.Exactly.{answer_exact}

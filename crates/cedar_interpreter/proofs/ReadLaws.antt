@@ -18,7 +18,7 @@ use Rattle.cedar_model.specs.Operators.{path_answer, attribute_residual, attribu
 use Rattle.cedar_model.specs.Operators.{represented_at, attribute_answer, attribute_found, stored_attribute}
 use Rattle.cedar_model.specs.Operators.{binary_answer, binary_residual, expecting, tag_found, stored_tag}
 use Rattle.cedar_model.specs.Operators.{tag_residual_of, tag_residual_found, entity_expected, text_expected}
-use Rattle.cedar_model.specs.Rules.{MayAnswer, Resolves, AfterStored, AfterWalk, WalksOn, Walks, WalksFrom, AtPath, on_part}
+use Rattle.cedar_model.specs.Rules.{MayAnswer, Resolves, AfterStored, AfterWalk, WalksOn, Walks, WalksFrom, AtPath, on_part, Then}
 use Rattle.cedar_model.specs.Rules.{beside_residual}
 use Rattle.cedar_operators.specs.StoredResiduals.{path_residual, read_or, next_in, next_found, value_in}
 use Rattle.cedar_operators.specs.Operands.{over}
@@ -169,7 +169,7 @@ module _ (May : MayAnswer) (store : Store) where
           walks_from None z (λ x. Walks May store x l ls) (λ x. path_answer store x l ls)
           (step_is store v k l ls None i j) (λ x e. absurd (cc))
 
-  after_read : (y : Answer) (l : Text) (ls : List Text) (a : Answer) → WalksFrom May store y l ls a
+  after_read : (y : Answer) (l : Text) (ls : List Text) (a : Answer) → Then y (WalksFrom May store l ls) a
       → AfterStored May y l ls (λ u. Walks May store u l ls) a
   after_read (fails e) l ls a h = h
   after_read (answers (value v)) l ls a h = h
@@ -177,7 +177,7 @@ module _ (May : MayAnswer) (store : Store) where
 
   -- else it goes on from what the residual answers
   walk_read : (ks : List Text) (v : Represented) (k : Text) (t : Term) (n : Text) (ns : List Text)
-      → path_residual store v k ks ≡ Some (t, n, ns) → (y a : Answer) → May t y → WalksFrom May store y n ns a
+      → path_residual store v k ks ≡ Some (t, n, ns) → (y a : Answer) → May t y → Then y (WalksFrom May store n ns) a
       → Walks May store v k ks a
   unfolding path_residual read_or
   walk_read [] v k t n ns some y a may from = absurd (cc)
@@ -199,7 +199,7 @@ module _ (May : MayAnswer) (store : Store) where
             y,
             subst (λ x. May x y) (sym e.0) may,
             after_read y l ls a
-                (subst (λ x. WalksFrom May store y x ls a) (sym e.1) (subst (λ x. WalksFrom May store y n x a) (sym e.2) from)),
+                (subst (λ x. Then y (WalksFrom May store x ls) a) (sym e.1) (subst (λ x. Then y (WalksFrom May store n x) a) (sym e.2) from)),
           )
       by None (Some u) go i j h =
           walks_to u z (λ x. Walks May store x l ls) a (step_is store v k l ls (Some u) i j)

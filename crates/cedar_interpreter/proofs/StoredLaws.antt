@@ -7,7 +7,7 @@ use Rattle.cedar_model.specs.Failures.{Failure, PartialValue, value, residual, A
 use Rattle.cedar_model.specs.Settings.{Found, found, not_there, not_known, look_up, part_at, Setting}
 use Rattle.cedar_model.specs.Operators.{Container, a_record, an_entity, no_container, container_of, container_expected, stored_attribute, attribute_residual, attribute_found, attribute_in, attribute_answer, value_or_failure, represented_at, represented_names, key_is_missing, term_at}
 use Rattle.cedar_model.specs.Shapes.{is_projectable}
-use Rattle.cedar_model.specs.Rules.{MayAnswer, AtAttribute, fields_of_record}
+use Rattle.cedar_model.specs.Rules.{MayAnswer, AtAttribute, fields_of_record, Then}
 use Rattle.cedar_expressions.specs.declared.expr.Expr.{Expr}
 use Rattle.cedar_expressions.specs.View.{view}
 use Rattle.cedar_expressions.specs.Readers.{IsNoUnknown}
@@ -129,23 +129,23 @@ of_projection s (residual r) k = of_fields s.map (fields_of_record r) r k
 module _ (May : MayAnswer) (s : Setting) (p : PartialValue) (k : Text) where
   -- where the attribute reads no stored residual that is evaluated
   pub part_stored : (a : Answer) → resolved_in s.resolution (part_residual s.store p k) ≡ None
-      → AnswersProjection May (projection s p k) a → AtAttribute May s (answers p) k a
+      → AnswersProjection May (projection s p k) a → Then (answers p) (AtAttribute May s k) a
   part_stored a none is =
       at_attribute May s p k a (λ v same stored. as_stored May s.resolution (attribute_residual s.store v k) (attribute_answer s v k) a
       (subst (λ x. resolved_in s.resolution (part_residual s.store x k) ≡ None) same none) stored) is
 
   -- and where it reads one
   pub part_read : (t : Term) (a : Answer) → resolved_in s.resolution (part_residual s.store p k) ≡ Some t → May t a
-      → AtAttribute May s (answers p) k a
+      → Then (answers p) (AtAttribute May s k) a
   part_read t a some may = by p some
     where
-      by : (q : PartialValue) → resolved_in s.resolution (part_residual s.store q k) ≡ Some t → AtAttribute May s (answers q) k a
+      by : (q : PartialValue) → resolved_in s.resolution (part_residual s.store q k) ≡ Some t → Then (answers q) (AtAttribute May s k) a
       by (value v) h = as_read May s.resolution (attribute_residual s.store v k) t (attribute_answer s v k) a h may
       by (residual r) h = absurd (nothing_resolved s.resolution t h)
 
   pub stored_uses : (x : Result RustPartialValue EvaluationError) (a : Answer) → a ≢ fails out_of_memory →
       a ≡ remapped s.map (partial_answer x) → ProjectsTo (projections.Answer x) (projection (over s s.store) p k) →
-      resolved_in s.resolution (part_residual s.store p k) ≡ None → AtAttribute May s (answers p) k a
+      resolved_in s.resolution (part_residual s.store p k) ≡ None → Then (answers p) (AtAttribute May s k) a
   unfolding remapped remapped_projection
   stored_uses x a never_out_of_memory is h none =
       let not_out_of_memory : partial_answer x ≢ fails out_of_memory = λ w. never_out_of_memory (is ∙ ap (remapped s.map) w) in
@@ -154,7 +154,7 @@ module _ (May : MayAnswer) (s : Setting) (p : PartialValue) (k : Text) where
       part_stored a none (subst (λ q. AnswersProjection May q a) (sym all) is)
 
   pub part_uses : (e : Expr) → ProjectsTo (projections.Attribute e) (projection (over s s.store) p k) → (y a : Answer) → May (view e) y →
-      a ≡ y → resolved_in s.resolution (part_residual s.store p k) ≡ None → AtAttribute May s (answers p) k a
+      a ≡ y → resolved_in s.resolution (part_residual s.store p k) ≡ None → Then (answers p) (AtAttribute May s k) a
   unfolding remapped_projection
   part_uses e h y a may is none =
       let same : interpreted_again (view e) ≡ projection (over s s.store) p k = h (λ w. cc) in

@@ -9,7 +9,7 @@ use Rattle.cedar_model.specs.Terms.{Text, Terms, one_term, Term, if_then_else, u
 use Rattle.cedar_model.specs.Failures.{Answer, fails, out_of_memory, answers_residual}
 use Rattle.cedar_model.specs.Operators.{unary_answer, like_answer}
 use Rattle.cedar_model.specs.Settings.{Setting}
-use Rattle.cedar_model.specs.Rules.{MayAnswer, StoredCalls, Runs, Meets, best, AfterBest, AfterGuard, AfterAndLeft, AfterOrLeft, joined, on_part, AfterLeft, Resolves, beside_residual, binary_beside, AtAttribute, has_part, AtPath, is_part}
+use Rattle.cedar_model.specs.Rules.{MayAnswer, StoredCalls, Runs, Meets, best, AfterBest, AfterGuard, AfterAndLeft, AfterOrLeft, joined, on_part, AfterLeft, Resolves, beside_residual, binary_beside, AtAttribute, has_part, AtPath, is_part, Then}
 use Rattle.cedar_names.specs.Names.{type_text}
 use Rattle.cedar_names.specs.Leaves.{unary_view, binary_view, pattern_view, texts_view}
 use Rattle.cedar_names.specs.declared.names.Loc.{Loc}
@@ -54,13 +54,13 @@ boxed_term b = partial_term (partial_view b.part.value)
 
 -- what the rules do with the answer of a left side, before this right one
 abbrev pub AfterLeftSide : MayAnswer → Connective → Answer → Term → Answer → Type 0
-AfterLeftSide May connectives.And x t a = AfterAndLeft May x t a
-AfterLeftSide May connectives.Or x t a = AfterOrLeft May x t a
+AfterLeftSide May connectives.And x t a = Then x (AfterAndLeft May t) a
+AfterLeftSide May connectives.Or x t a = Then x (AfterOrLeft May t) a
 
 -- what the rules do with a part's answer, where `May` says what parts may answer
 abbrev pub Uses : Setting → MayAnswer → Pending → Answer → Answer → Type 0
 Uses s May pendings.Passed x a = a ≡ x
-Uses s May (pendings.Guard t e) x a = AfterGuard May x (view t.value) (view e.value) a
+Uses s May (pendings.Guard t e) x a = Then x (AfterGuard May (view t.value) (view e.value)) a
 Uses s May (pendings.Then f) x a =
     AfterBest (best x (view f.value.then_expr.value)) (λ t b. (y : Answer) × May (view f.value.else_expr.value) y
     × AfterBest (best y (view f.value.else_expr.value))
@@ -73,11 +73,11 @@ Uses s May (pendings.RightSide c) x a = a ≡ joined (beside_neutral c) x
 Uses s May (pendings.KeptRightSide c l r) x a =
     AfterBest (best x (view r.value)) (λ t b. b ≡ answers_residual (joined_terms c (boxed_term l) t)) a
 Uses s May (pendings.Unary op) x a = a ≡ on_part (unary_answer (unary_view op)) (unary (unary_view op)) x
-Uses s May (pendings.BinaryLeft op r) x a = AfterLeft May s (binary_view op) x (view r.value) a
+Uses s May (pendings.BinaryLeft op r) x a = Then x (AfterLeft May s (binary_view op) (view r.value)) a
 Uses s May (pendings.BinaryRight op l) x a =
     Resolves May s.resolution (beside_residual s.store (binary_view op) (partial_view l.value) x)
     (binary_beside s (binary_view op) (partial_view l.value) x) a
-Uses s May (pendings.GetAttr k) x a = AtAttribute May s x (rc_str_bytes k) a
+Uses s May (pendings.GetAttr k) x a = Then x (AtAttribute May s (rc_str_bytes k)) a
 Uses s May (pendings.HasAttr k) x a = a ≡ has_part s (rc_str_bytes k) x
 Uses s May (pendings.ExtHasAttr ks) x a =
     AtPath May s.resolution s.store x (rc_str_bytes ks.value.first) (texts_view ks.value.rest.items) a

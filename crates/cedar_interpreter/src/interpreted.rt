@@ -1,6 +1,6 @@
 //! The call that evaluates an expression.
 ghost use Rattle.std.specs.Prelude.{◌≡◌, ℕ, IfOk};
-ghost use Rattle.cedar_model.specs.RestrictedLaws.{HoldsUnknown};
+ghost use Rattle.cedar_model.specs.laws.Restricted.{HoldsUnknown};
 ghost use Rattle.cedar_expressions.specs.View.{view, expr_loc};
 ghost use Rattle.cedar_expressions.specs.Nodes.{parts_of};
 ghost use Rattle.cedar_values.specs.Residuals.{partial_view, partial_loc, IfValue};

@@ -9,8 +9,8 @@ use Rattle.cedar_model.specs.Failures.{function_has_failed}
 use Rattle.cedar_model.specs.Settings.{StoredEntity, part_at}
 use Rattle.cedar_model.specs.Agreement.{EachStored}
 use Rattle.cedar_model.specs.Restricted.{IsSound, IsSoundPart}
-use Rattle.cedar_model.specs.Examples.{user}
-use Rattle.cedar_model.specs.Instances.{no_calls}
+use Rattle.cedar_model.specs.examples.Setting.{user}
+use Rattle.cedar_model.specs.examples.Instances.{no_calls}
 use Rattle.cedar_model.proofs.Computed.{opened}
 use Rattle.cedar_model.proofs.Instanced.{computed_with, none_must}
 use Rattle.cedar_model.proofs.Injections.{none_is_not_some}

@@ -52,7 +52,7 @@ module _ (s : Setting) (calls : Rules.StoredCalls) (one_call : HaveOneAnswer cal
       through e (λ y z. Rules.AfterBest (Rules.best y e) (λ e' u. u ≡ answers_residual (if_then_else r t' e')) z)
       (λ y u w. best_one (Rules.best y e) _ (λ e' m n f g. both_are m n _ f g) u w) p q) c d) a b h k
 
-  guard_one : (x : Answer) (t e : Term) (a b : Answer) → Rules.AfterGuard G x t e a → Rules.AfterGuard G x t e b → a ≡ b
+  guard_one : (x : Answer) (t e : Term) (a b : Answer) → Rules.Then x (Rules.AfterGuard G t e) a → Rules.Then x (Rules.AfterGuard G t e) b → a ≡ b
   guard_one (fails f) t e a b h k = both_are a b _ h k
   guard_one (answers (value v)) t e a b h k = takes_one (bool_of (abstract_value v)) v t e a b h k
   guard_one (answers (residual r)) t e a b h k = branches_one r t e a b h k
@@ -74,7 +74,7 @@ module _ (s : Setting) (calls : Rules.StoredCalls) (one_call : HaveOneAnswer cal
   and_left_one (Some true) v t a b h k = reads_one (both (literal (bool_literal true))) t a b h k
   and_left_one (Some false) v t a b h k = both_are a b _ h k
 
-  and_one : (x : Answer) (t : Term) (a b : Answer) → Rules.AfterAndLeft G x t a → Rules.AfterAndLeft G x t b → a ≡ b
+  and_one : (x : Answer) (t : Term) (a b : Answer) → Rules.Then x (Rules.AfterAndLeft G t) a → Rules.Then x (Rules.AfterAndLeft G t) b → a ≡ b
   and_one (fails e) t a b h k = both_are a b _ h k
   and_one (answers (value v)) t a b h k = and_left_one (bool_of (abstract_value v)) v t a b h k
   and_one (answers (residual r)) t a b h k = right_one (both r) t a b h k
@@ -85,7 +85,7 @@ module _ (s : Setting) (calls : Rules.StoredCalls) (one_call : HaveOneAnswer cal
   or_left_one (Some true) v t a b h k = both_are a b _ h k
   or_left_one (Some false) v t a b h k = reads_one (either (literal (bool_literal false))) t a b h k
 
-  or_one : (x : Answer) (t : Term) (a b : Answer) → Rules.AfterOrLeft G x t a → Rules.AfterOrLeft G x t b → a ≡ b
+  or_one : (x : Answer) (t : Term) (a b : Answer) → Rules.Then x (Rules.AfterOrLeft G t) a → Rules.Then x (Rules.AfterOrLeft G t) b → a ≡ b
   or_one (fails e) t a b h k = both_are a b _ h k
   or_one (answers (value v)) t a b h k = or_left_one (bool_of (abstract_value v)) v t a b h k
   or_one (answers (residual r)) t a b h k = right_one (either r) t a b h k
@@ -98,8 +98,8 @@ module _ (s : Setting) (calls : Rules.StoredCalls) (one_call : HaveOneAnswer cal
   resolves_one deep None stored a b h k = both_are a b _ h k
   resolves_one deep (Some t) stored a b h k = one t a b h k
 
-  left_one : (op : BinaryOperator) (x : Answer) (t : Term) (a b : Answer) → Rules.AfterLeft G s op x t a
-      → Rules.AfterLeft G s op x t b → a ≡ b
+  left_one : (op : BinaryOperator) (x : Answer) (t : Term) (a b : Answer) → Rules.Then x (Rules.AfterLeft G s op t) a
+      → Rules.Then x (Rules.AfterLeft G s op t) b → a ≡ b
   left_one op (fails e) t a b h k = both_are a b _ h k
   left_one op (answers p) t a b h k =
       through t (λ y c. Rules.Resolves G s.resolution (Rules.beside_residual s.store op p y) (Rules.binary_beside s op p y) c)
@@ -120,7 +120,7 @@ module _ (s : Setting) (calls : Rules.StoredCalls) (one_call : HaveOneAnswer cal
   fields_one None r n a b h k = both_are a b _ h k
   fields_one (Some fs) r n a b h k = key_one (term_at n fs) fs r n a b h k
 
-  attribute_one : (x : Answer) (n : Text) (a b : Answer) → Rules.AtAttribute G s x n a → Rules.AtAttribute G s x n b → a ≡ b
+  attribute_one : (x : Answer) (n : Text) (a b : Answer) → Rules.Then x (Rules.AtAttribute G s n) a → Rules.Then x (Rules.AtAttribute G s n) b → a ≡ b
   attribute_one (fails e) n a b h k = both_are a b _ h k
   attribute_one (answers (value v)) n a b h k =
       resolves_one s.resolution (attribute_residual s.store v n) (attribute_answer s v n) a b h k
@@ -155,8 +155,8 @@ module _ (s : Setting) (calls : Rules.StoredCalls) (one_call : HaveOneAnswer cal
       walks_on_one (attribute_residual s.store v n) (walk_in s.store (container_of v) (container_expected v) n l ls) l ls
       (λ u c. Rules.Walks G s.store u l ls c) (λ u c d. walks_one ls u l c d) a b h k
 
-  path_from_one : (x : Answer) (n : Text) (ks : List Text) (a b : Answer) → Rules.WalksFrom G s.store x n ks a
-      → Rules.WalksFrom G s.store x n ks b → a ≡ b
+  path_from_one : (x : Answer) (n : Text) (ks : List Text) (a b : Answer) → Rules.Then x (Rules.WalksFrom G s.store n ks) a
+      → Rules.Then x (Rules.WalksFrom G s.store n ks) b → a ≡ b
   path_from_one (fails e) n ks a b h k = both_are a b _ h k
   path_from_one (answers (value v)) n ks a b h k = walks_one ks v n a b h k
   path_from_one (answers (residual r)) n ks a b h k = both_are a b _ h k
@@ -226,15 +226,15 @@ module _ (s : Setting) (calls : Rules.StoredCalls) (one_call : HaveOneAnswer cal
   rule_one (slot i) a b h k = both_are a b _ h k
   rule_one (unknown n t) a b h k = both_are a b _ h k
   rule_one (if_then_else c t e) a b h k =
-      through c (λ x d. Rules.AfterGuard G x t e d) (λ x d f. guard_one x t e d f) a b h k
-  rule_one (both t u) a b h k = through t (λ x d. Rules.AfterAndLeft G x u d) (λ x d e. and_one x u d e) a b h k
-  rule_one (either t u) a b h k = through t (λ x d. Rules.AfterOrLeft G x u d) (λ x d e. or_one x u d e) a b h k
+      through c (λ x d. Rules.Then x (Rules.AfterGuard G t e) d) (λ x d f. guard_one x t e d f) a b h k
+  rule_one (both t u) a b h k = through t (λ x d. Rules.Then x (Rules.AfterAndLeft G u) d) (λ x d e. and_one x u d e) a b h k
+  rule_one (either t u) a b h k = through t (λ x d. Rules.Then x (Rules.AfterOrLeft G u) d) (λ x d e. or_one x u d e) a b h k
   rule_one (unary op t) a b h k = by_part (Rules.on_part (unary_answer op) (unary op)) t a b h k
-  rule_one (binary op t u) a b h k = through t (λ x d. Rules.AfterLeft G s op x u d) (λ x d e. left_one op x u d e) a b h k
+  rule_one (binary op t u) a b h k = through t (λ x d. Rules.Then x (Rules.AfterLeft G s op u) d) (λ x d e. left_one op x u d e) a b h k
   rule_one (call f ts) a b (r, g, h) (z, j, k) =
       arguments_one z f a b (subst (λ o. Rules.AfterArguments calls s.extensions.arity f o a) (parts_one ts r z g j) h) k
   rule_one (get_attribute t n) a b h k =
-      through t (λ x d. Rules.AtAttribute G s x n d) (λ x d e. attribute_one x n d e) a b h k
+      through t (λ x d. Rules.Then x (Rules.AtAttribute G s n) d) (λ x d e. attribute_one x n d e) a b h k
   rule_one (has_attribute t n) a b h k = by_part (Rules.has_part s n) t a b h k
   rule_one (extended_has t n ns) a b h k =
       through t (λ x d. Rules.AtPath G s.resolution s.store x n ns d) (λ x d e. path_one s.resolution x n ns d e) a b h k

@@ -13,8 +13,8 @@ use Rattle.cedar_model.specs.World.{Extensions}
 use Rattle.cedar_model.specs.Rules.{Runs}
 use Rattle.cedar_model.specs.Agreement.{no_slots}
 use Rattle.cedar_model.specs.Restricted.{IsGivenSound}
-use Rattle.cedar_model.specs.Examples.{user, long, some_functions}
-use Rattle.cedar_model.specs.Instances.{asking_calls, no_calls}
+use Rattle.cedar_model.specs.examples.Setting.{user, long, some_functions}
+use Rattle.cedar_model.specs.examples.Instances.{asking_calls, no_calls}
 use Rattle.cedar_laws.specs.Faithful.{GivenHoldsNoExtensionValue, AnswerNoExtensionValue, GiveNoExtensionValue}
 use Rattle.cedar_laws.specs.Faithful.{NoneAnswers}
 

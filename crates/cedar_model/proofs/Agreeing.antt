@@ -15,7 +15,7 @@ use Rattle.cedar_model.specs.Settings.{Resolution, shallow, deep, Setting}
 use Rattle.cedar_model.specs.Operators
 use Rattle.cedar_model.specs.Rules
 use Rattle.cedar_model.specs.Agreement.{EachStored, IsValue}
-use Rattle.cedar_model.specs.ResolutionLaws.{with_resolution}
+use Rattle.cedar_model.specs.laws.Resolutions.{with_resolution}
 use Rattle.cedar_model.proofs.Resolving as resolving
 use Rattle.cedar_model.proofs.Resolving.{IsStored, none_is_stored, attribute_is_stored, beside_is_stored}
 
@@ -120,7 +120,7 @@ module _ (s : Setting) (r : Resolution) (values : EachStored IsValue s.store) wh
     bests (Rules.kept t) Next Next' a f h = f t h
     bests (Rules.handed_up e) Next Next' a f h = h
 
-    guards : (x : Answer) (t e : Term) (a : Answer) → Rules.AfterGuard G x t e a → Rules.AfterGuard H x t e a
+    guards : (x : Answer) (t e : Term) (a : Answer) → Rules.Then x (Rules.AfterGuard G t e) a → Rules.Then x (Rules.AfterGuard H t e) a
     guards (fails f) t e a h = h
     guards (answers (value v)) t e a h = takes (bool_of (abstract_value v)) v t e a h
     guards (answers (residual q)) t e a (x, g, h) =
@@ -132,7 +132,7 @@ module _ (s : Setting) (r : Resolution) (values : EachStored IsValue s.store) wh
     and_bools (Some true) v t a (x, g, e) = (x, more t x g, e)
     and_bools (Some false) v t a h = h
 
-    ands : (x : Answer) (t : Term) (a : Answer) → Rules.AfterAndLeft G x t a → Rules.AfterAndLeft H x t a
+    ands : (x : Answer) (t : Term) (a : Answer) → Rules.Then x (Rules.AfterAndLeft G t) a → Rules.Then x (Rules.AfterAndLeft H t) a
     ands (fails e) t a h = h
     ands (answers (value v)) t a h = and_bools (bool_of (abstract_value v)) v t a h
     ands (answers (residual q)) t a (x, g, h) = (x, more t x g, h)
@@ -143,13 +143,13 @@ module _ (s : Setting) (r : Resolution) (values : EachStored IsValue s.store) wh
     or_bools (Some true) v t a h = h
     or_bools (Some false) v t a (x, g, e) = (x, more t x g, e)
 
-    ors : (x : Answer) (t : Term) (a : Answer) → Rules.AfterOrLeft G x t a → Rules.AfterOrLeft H x t a
+    ors : (x : Answer) (t : Term) (a : Answer) → Rules.Then x (Rules.AfterOrLeft G t) a → Rules.Then x (Rules.AfterOrLeft H t) a
     ors (fails e) t a h = h
     ors (answers (value v)) t a h = or_bools (bool_of (abstract_value v)) v t a h
     ors (answers (residual q)) t a (x, g, h) = (x, more t x g, h)
 
-    lefts : (op : BinaryOperator) (x : Answer) (t : Term) (a : Answer) → Rules.AfterLeft G s op x t a
-        → Rules.AfterLeft H z op x t a
+    lefts : (op : BinaryOperator) (x : Answer) (t : Term) (a : Answer) → Rules.Then x (Rules.AfterLeft G s op t) a
+        → Rules.Then x (Rules.AfterLeft H z op t) a
     lefts op (fails e) t a h = h
     lefts op (answers p) t a (y, g, h) =
         let e : a ≡ Rules.binary_beside z op p y =
@@ -177,7 +177,7 @@ module _ (s : Setting) (r : Resolution) (values : EachStored IsValue s.store) wh
     fields None q k a h = h
     fields (Some fs) q k a h = keys (Operators.term_at k fs) fs q k a h
 
-    attributes : (x : Answer) (k : Text) (a : Answer) → Rules.AtAttribute G s x k a → Rules.AtAttribute H z x k a
+    attributes : (x : Answer) (k : Text) (a : Answer) → Rules.Then x (Rules.AtAttribute G s k) a → Rules.Then x (Rules.AtAttribute H z k) a
     attributes (fails e) k a h = h
     attributes (answers (value v)) k a h =
         let e : a ≡ Operators.attribute_answer z v k =

@@ -9,7 +9,7 @@ use Rattle.cedar_model.specs.Failures.{Failure, PartialValue, Answer}
 use Rattle.cedar_model.specs.Settings.{ContextPart, absent_context, known_context, residual_context, RequestPart}
 use Rattle.cedar_model.specs.Settings.{Setting, Store}
 use Rattle.cedar_model.specs.Rules
-use Rattle.cedar_model.specs.LevelLaws.{FunctionsAnswer, FunctionsFindMemory}
+use Rattle.cedar_model.specs.laws.Levels.{FunctionsAnswer, FunctionsFindMemory}
 use Rattle.cedar_model.specs.Policies.{Policy, ErrorHandling}
 use Rattle.cedar_model.specs.Responses.{Row, RunOf, row_of, decided, error_of, with_error, with_slots}
 use Rattle.cedar_model.specs.Refusals

@@ -357,7 +357,7 @@ module _ (ans : Functions) (calls : Rules.StoredCalls) (agree : Agreement.Agrees
       takes_values (Some false) v t e a kt ke r = ih e a ke r
 
       guard_values : (x : Answer) (t e : Term) (a : Answer) → IsNamed t → IsNamed e → IsNoResidual x
-          → Rules.AfterGuard G x t e a → IsNoResidual a
+          → Rules.Then x (Rules.AfterGuard G t e) a → IsNoResidual a
       guard_values (fails f) t e a kt ke i r = by_equal a _ r tt
       guard_values (answers (value v)) t e a kt ke i r = takes_values (bool_of (abstract_value v)) v t e a kt ke r
       guard_values (answers (residual q)) t e a kt ke i r = absurd i
@@ -371,7 +371,7 @@ module _ (ans : Functions) (calls : Rules.StoredCalls) (agree : Agreement.Agrees
       and_values (Some true) v t a k r = right_values _ t a k r
       and_values (Some false) v t a k r = by_equal a _ r tt
 
-      after_and : (x : Answer) (t : Term) (a : Answer) → IsNamed t → IsNoResidual x → Rules.AfterAndLeft G x t a
+      after_and : (x : Answer) (t : Term) (a : Answer) → IsNamed t → IsNoResidual x → Rules.Then x (Rules.AfterAndLeft G t) a
           → IsNoResidual a
       after_and (fails e) t a k i r = by_equal a _ r tt
       after_and (answers (value v)) t a k i r = and_values (bool_of (abstract_value v)) v t a k r
@@ -383,7 +383,7 @@ module _ (ans : Functions) (calls : Rules.StoredCalls) (agree : Agreement.Agrees
       or_values (Some true) v t a k r = by_equal a _ r tt
       or_values (Some false) v t a k r = right_values _ t a k r
 
-      after_or : (x : Answer) (t : Term) (a : Answer) → IsNamed t → IsNoResidual x → Rules.AfterOrLeft G x t a
+      after_or : (x : Answer) (t : Term) (a : Answer) → IsNamed t → IsNoResidual x → Rules.Then x (Rules.AfterOrLeft G t) a
           → IsNoResidual a
       after_or (fails e) t a k i r = by_equal a _ r tt
       after_or (answers (value v)) t a k i r = or_values (bool_of (abstract_value v)) v t a k r
@@ -431,14 +431,14 @@ module _ (ans : Functions) (calls : Rules.StoredCalls) (agree : Agreement.Agrees
           (λ t d e g. ih t a (deep_named d t (i t e)) g) h
 
       after_left : (op : BinaryOperator) (x : Answer) (t : Term) (a : Answer) → IsNamed t → IsNoResidual x
-          → Rules.AfterLeft G s op x t a → IsNoResidual a
+          → Rules.Then x (Rules.AfterLeft G s op t) a → IsNoResidual a
       after_left op (fails e) t a k i r = by_equal a _ r tt
       after_left op (answers (value v)) t a k i (y, g, e) =
           look_up_values (Rules.beside_residual s.store op (value v) y) _ a (beside_is_stored s.store op (value v) y)
           (beside_values op v y (ih t y k g)) e
       after_left op (answers (residual q)) t a k i r = absurd i
 
-      after_attribute : (x : Answer) (l : Text) (a : Answer) → IsNoResidual x → Rules.AtAttribute G s x l a
+      after_attribute : (x : Answer) (l : Text) (a : Answer) → IsNoResidual x → Rules.Then x (Rules.AtAttribute G s l) a
           → IsNoResidual a
       after_attribute (fails e) l a i r = by_equal a _ r tt
       after_attribute (answers (value v)) l a i r =

@@ -18,7 +18,7 @@ use Rattle.cedar_model.specs.Responses.{Reported, reported_true, reported_false,
 use Rattle.cedar_model.specs.Chains.{is_true, is_residual, has_effect, rows_of}
 use Rattle.cedar_model.specs.Reports
 use Rattle.cedar_model.specs.Reports.{some_row, ids, trues, residuals}
-use Rattle.cedar_model.specs.ReportLaws
+use Rattle.cedar_model.specs.laws.Reports as ReportLaws
 use Rattle.cedar_model.proofs.Counting
 use Rattle.cedar_model.proofs.Standing.{errs_isn't}
 use Rattle.cedar_model.proofs.Injections.{some_inj, none_is_not_some, true_is_not_false}

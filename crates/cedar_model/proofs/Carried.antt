@@ -121,16 +121,16 @@ module _ (s : Setting) (calls : Rules.StoredCalls) where
   joined_always b h x (inr e) = inr (ap (Rules.joined h) e)
 
   right_always : (n : ℕ) (b : Bool) (u : Term) (a : Answer) → Always b u
-      → Rules.AfterAndLeft (Rules.Runs s calls n) (answers_bool true) u a → IsBoolOrLimit b a
+      → Rules.Then (answers_bool true) (Rules.AfterAndLeft (Rules.Runs s calls n) u) a → IsBoolOrLimit b a
   unfolding bool_of
   right_always n b u a h (y, g, e) =
       subst (IsBoolOrLimit b) (sym e) (joined_always b (both (literal (bool_literal true))) y (h n y g))
 
   left_always : (n : ℕ) (b : Bool) (u : Term) (x a : Answer) → Always b u → IsBoolOrLimit true x
-      → Rules.AfterAndLeft (Rules.Runs s calls n) x u a → IsBoolOrLimit b a
-  left_always n b u x a h (inl e) r = inl (subst (λ z. Rules.AfterAndLeft (Rules.Runs s calls n) z u a) e r)
+      → Rules.Then x (Rules.AfterAndLeft (Rules.Runs s calls n) u) a → IsBoolOrLimit b a
+  left_always n b u x a h (inl e) r = inl (subst (λ z. Rules.Then z (Rules.AfterAndLeft (Rules.Runs s calls n) u) a) e r)
   left_always n b u x a h (inr e) r =
-      right_always n b u a h (subst (λ z. Rules.AfterAndLeft (Rules.Runs s calls n) z u a) e r)
+      right_always n b u a h (subst (λ z. Rules.Then z (Rules.AfterAndLeft (Rules.Runs s calls n) u) a) e r)
 
   both_always : (b : Bool) (t u : Term) → Always true t → Always b u → Always b (both t u)
   both_always b t u ht hu zero a r = inl r

@@ -10,8 +10,8 @@ use Rattle.cedar_model.specs.Settings
 use Rattle.cedar_model.specs.Operators
 use Rattle.cedar_model.specs.Rules
 use Rattle.cedar_model.specs.Agreement
-use Rattle.cedar_model.specs.Examples.{some_setting, some_extensions, some_calls}
-use Rattle.cedar_model.specs.LevelLaws.{FunctionsAnswer}
+use Rattle.cedar_model.specs.examples.Setting.{some_setting, some_extensions, some_calls}
+use Rattle.cedar_model.specs.laws.Levels.{FunctionsAnswer}
 use Rattle.cedar_model.proofs.Total.{total}
 
 abbrev pub some_answer : (arity : Text → Option ℕ) → FunctionsAnswer some_calls arity

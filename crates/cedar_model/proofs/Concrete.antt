@@ -17,10 +17,10 @@ use Rattle.cedar_model.specs.Responses
 use Rattle.cedar_model.specs.Responses.{Reported, reported_true, reported_false, reported_residual, Row}
 use Rattle.cedar_model.specs.Chains.{is_true, is_residual, has_effect, rows_of}
 use Rattle.cedar_model.specs.Authorizations
-use Rattle.cedar_model.specs.AuthorizationLaws.{PolicyRuns}
+use Rattle.cedar_model.specs.laws.Authorizations.{PolicyRuns}
 use Rattle.cedar_model.specs.Reports
 use Rattle.cedar_model.specs.Reports.{some_row, ids, trues, residuals, judged_row, reported_verdict}
-use Rattle.cedar_model.specs.ReportLaws
+use Rattle.cedar_model.specs.laws.Reports as ReportLaws
 use Rattle.cedar_model.proofs.Bounds
 use Rattle.cedar_model.proofs.Counting.{is_open}
 use Rattle.cedar_model.proofs.Injections.{none_is_not_some, same_bools}

@@ -4,7 +4,7 @@ use Rattle.std.proofs.Common.{refl, sym, ap, ◌∙◌}
 use Rattle.cedar_model.specs.Policies.{permit, forbid, erring, Judged, Decision, allow, deny, is_satisfied}
 use Rattle.cedar_model.specs.Policies.{is_satisfied_by, some_satisfied, decision, reasons}
 use Rattle.cedar_model.specs.Policies.{ErrorHandling, skip, forbid_on_error, counted, counted_verdict, counting}
-use Rattle.cedar_model.specs.PolicyLaws
+use Rattle.cedar_model.specs.laws.Policies as PolicyLaws
 use Rattle.cedar_model.specs.Reordering.{IsReordering, nothing, keeping, swapping, chaining}
 use Rattle.cedar_model.proofs.Decisions.{order_changes_nothing, forbids_keep_deny, permits_keep_allow}
 use Rattle.cedar_model.proofs.Decisions.{erring_changes_nothing, some_with}

@@ -202,8 +202,8 @@ module _ (s : Setting) (calls : Rules.StoredCalls)
       (λ u u' i (x', g', k') (y', j', l'). best_alike x' y' e _ _ a b (determined e x' y' g' j')
       (λ z z' i' m m'. by_sides a b _ _ m m' (λ n. if_then_else (h n) (i n) (i' n))) k' l') k l
 
-  guard_alike : (x y : Answer) (t e : Term) (a b : Answer) → AreAlike x y → Rules.AfterGuard G x t e a
-      → Rules.AfterGuard G y t e b → AreAlike a b
+  guard_alike : (x y : Answer) (t e : Term) (a b : Answer) → AreAlike x y → Rules.Then x (Rules.AfterGuard G t e) a
+      → Rules.Then y (Rules.AfterGuard G t e) b → AreAlike a b
   guard_alike (fails f) (fails f') t e a b h g j = by_sides a b _ _ g j h
   guard_alike (fails f) (answers p) t e a b h g j = absurd h
   guard_alike (answers p) (fails f) t e a b h g j = absurd h
@@ -232,8 +232,8 @@ module _ (s : Setting) (calls : Rules.StoredCalls)
       right_alike _ _ (λ r q e. ap (both (literal (bool_literal true))) e) t a b g j
   and_bool_alike (Some false) v w t a b g j = by_sides a b _ _ g j refl
 
-  and_alike : (x y : Answer) (t : Term) (a b : Answer) → AreAlike x y → Rules.AfterAndLeft G x t a
-      → Rules.AfterAndLeft G y t b → AreAlike a b
+  and_alike : (x y : Answer) (t : Term) (a b : Answer) → AreAlike x y → Rules.Then x (Rules.AfterAndLeft G t) a
+      → Rules.Then y (Rules.AfterAndLeft G t) b → AreAlike a b
   and_alike (fails f) (fails f') t a b h g j = by_sides a b _ _ g j h
   and_alike (fails f) (answers p) t a b h g j = absurd h
   and_alike (answers p) (fails f) t a b h g j = absurd h
@@ -252,8 +252,8 @@ module _ (s : Setting) (calls : Rules.StoredCalls)
   or_bool_alike (Some false) v w t a b g j =
       right_alike _ _ (λ r q e. ap (either (literal (bool_literal false))) e) t a b g j
 
-  or_alike : (x y : Answer) (t : Term) (a b : Answer) → AreAlike x y → Rules.AfterOrLeft G x t a
-      → Rules.AfterOrLeft G y t b → AreAlike a b
+  or_alike : (x y : Answer) (t : Term) (a b : Answer) → AreAlike x y → Rules.Then x (Rules.AfterOrLeft G t) a
+      → Rules.Then y (Rules.AfterOrLeft G t) b → AreAlike a b
   or_alike (fails f) (fails f') t a b h g j = by_sides a b _ _ g j h
   or_alike (fails f) (answers p) t a b h g j = absurd h
   or_alike (answers p) (fails f) t a b h g j = absurd h
@@ -282,7 +282,7 @@ module _ (s : Setting) (calls : Rules.StoredCalls)
       determined t a b g (subst (λ z. G z b) (sym (some_inj e)) j)
 
   left_alike : (op : BinaryOperator) (x y : Answer) (t : Term) (a b : Answer) → AreAlike x y
-      → Rules.AfterLeft G s op x t a → Rules.AfterLeft G s op y t b → AreAlike a b
+      → Rules.Then x (Rules.AfterLeft G s op t) a → Rules.Then y (Rules.AfterLeft G s op t) b → AreAlike a b
   left_alike op (fails e) (fails f) t a b h g j = by_sides a b _ _ g j h
   left_alike op (fails e) (answers p) t a b h g j = absurd h
   left_alike op (answers p) (fails e) t a b h g j = absurd h
@@ -427,8 +427,8 @@ module _ (s : Setting) (calls : Rules.StoredCalls)
       at_key_alike (Operators.term_at k fs) (Operators.term_at k gs) fs gs r q k x y refl refl e f
       (alike.alike_term_at k fs gs (some_inj h)) h' g j
 
-  attribute_alike : (x y : Answer) (k : Text) (a b : Answer) → AreAlike x y → Rules.AtAttribute G s x k a
-      → Rules.AtAttribute G s y k b → AreAlike a b
+  attribute_alike : (x y : Answer) (k : Text) (a b : Answer) → AreAlike x y → Rules.Then x (Rules.AtAttribute G s k) a
+      → Rules.Then y (Rules.AtAttribute G s k) b → AreAlike a b
   attribute_alike (fails e) (fails f) k a b h g j = by_sides a b _ _ g j h
   attribute_alike (fails e) (answers p) k a b h g j = absurd h
   attribute_alike (answers p) (fails e) k a b h g j = absurd h

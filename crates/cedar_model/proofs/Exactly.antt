@@ -19,7 +19,7 @@ use Rattle.cedar_model.specs.Policies.{Policy, Judged, verdict, judge_each}
 use Rattle.cedar_model.specs.Responses
 use Rattle.cedar_model.specs.Responses.{with_slots, FitPolicies}
 use Rattle.cedar_model.specs.Authorizations
-use Rattle.cedar_model.specs.AuthorizationLaws.{PolicyRuns}
+use Rattle.cedar_model.specs.laws.Authorizations.{PolicyRuns}
 use Rattle.cedar_model.proofs.Determined.{limit_alone}
 use Rattle.cedar_model.proofs.Functional.{functional}
 use Rattle.cedar_model.proofs.Known.{allowed_exact, need_below_height}

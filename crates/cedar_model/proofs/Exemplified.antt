@@ -15,8 +15,8 @@ use Rattle.cedar_model.specs.Responses.{Row}
 use Rattle.cedar_model.specs.Refusals
 use Rattle.cedar_model.specs.Chains
 use Rattle.cedar_model.specs.Reports
-use Rattle.cedar_model.specs.Examples.{some_calls}
-use Rattle.cedar_model.specs.LevelLaws.{FunctionsAnswer}
+use Rattle.cedar_model.specs.examples.Setting.{some_calls}
+use Rattle.cedar_model.specs.laws.Levels.{FunctionsAnswer}
 use Rattle.cedar_model.proofs.Computed.{meaning_opened}
 use Rattle.cedar_model.proofs.Total.{total}
 use Rattle.cedar_model.proofs.Injections.{some_inj, none_is_not_some}

@@ -66,8 +66,8 @@ module _ (s : Setting) (calls : Rules.StoredCalls) (G H : Rules.MayAnswer) (less
       ). through (λ z. Rules.AfterBest (Rules.best z e) (λ e' c. c ≡ answers (residual (if_then_else r t' e'))))
       e y a refl k (inl l)) h)
 
-  less_guard : (x : Answer) (t e : Term) (a : Answer) → Rules.AfterGuard G x t e a →
-      OrLimit (Rules.AfterGuard H x t e) a
+  less_guard : (x : Answer) (t e : Term) (a : Answer) → Rules.Then x (Rules.AfterGuard G t e) a →
+      OrLimit (Rules.Then x (Rules.AfterGuard H t e)) a
   less_guard (fails f) t e a r = inl r
   less_guard (answers (value v)) t e a r = less_takes (bool_of (abstract_value v)) v t e a r
   less_guard (answers (residual q)) t e a r = less_branches q t e a r
@@ -90,7 +90,7 @@ module _ (s : Setting) (calls : Rules.StoredCalls) (G H : Rules.MayAnswer) (less
   less_and_bool (Some true) v t a r = less_right _ t a r
   less_and_bool (Some false) v t a r = inl r
 
-  less_and : (x : Answer) (t : Term) (a : Answer) → Rules.AfterAndLeft G x t a → OrLimit (Rules.AfterAndLeft H x t) a
+  less_and : (x : Answer) (t : Term) (a : Answer) → Rules.Then x (Rules.AfterAndLeft G t) a → OrLimit (Rules.Then x (Rules.AfterAndLeft H t)) a
   less_and (fails e) t a r = inl r
   less_and (answers (value v)) t a r = less_and_bool (bool_of (abstract_value v)) v t a r
   less_and (answers (residual q)) t a r = less_kept (both q) t a r
@@ -101,7 +101,7 @@ module _ (s : Setting) (calls : Rules.StoredCalls) (G H : Rules.MayAnswer) (less
   less_or_bool (Some true) v t a r = inl r
   less_or_bool (Some false) v t a r = less_right _ t a r
 
-  less_or : (x : Answer) (t : Term) (a : Answer) → Rules.AfterOrLeft G x t a → OrLimit (Rules.AfterOrLeft H x t) a
+  less_or : (x : Answer) (t : Term) (a : Answer) → Rules.Then x (Rules.AfterOrLeft G t) a → OrLimit (Rules.Then x (Rules.AfterOrLeft H t)) a
   less_or (fails e) t a r = inl r
   less_or (answers (value v)) t a r = less_or_bool (bool_of (abstract_value v)) v t a r
   less_or (answers (residual q)) t a r = less_kept (either q) t a r
@@ -112,8 +112,8 @@ module _ (s : Setting) (calls : Rules.StoredCalls) (G H : Rules.MayAnswer) (less
   less_resolves deep None x a h = inl h
   less_resolves deep (Some t) x a h = less t a h
 
-  less_left : (op : BinaryOperator) (x : Answer) (t : Term) (a : Answer) → Rules.AfterLeft G s op x t a →
-      OrLimit (Rules.AfterLeft H s op x t) a
+  less_left : (op : BinaryOperator) (x : Answer) (t : Term) (a : Answer) → Rules.Then x (Rules.AfterLeft G s op t) a →
+      OrLimit (Rules.Then x (Rules.AfterLeft H s op t)) a
   unfolding Rules.binary_beside Rules.beside_residual
   less_left op (fails e) t a r = inl r
   less_left op (answers p) t a (y, g, h) =
@@ -175,8 +175,8 @@ module _ (s : Setting) (calls : Rules.StoredCalls) (G H : Rules.MayAnswer) (less
   less_at_fields None r k a h = inl h
   less_at_fields (Some fs) r k a h = less_at_key (term_at k fs) fs r k a h
 
-  less_attribute : (x : Answer) (k : Text) (a : Answer) → Rules.AtAttribute G s x k a →
-      OrLimit (Rules.AtAttribute H s x k) a
+  less_attribute : (x : Answer) (k : Text) (a : Answer) → Rules.Then x (Rules.AtAttribute G s k) a →
+      OrLimit (Rules.Then x (Rules.AtAttribute H s k)) a
   less_attribute (fails e) k a r = inl r
   less_attribute (answers (value v)) k a r =
       less_resolves s.resolution (attribute_residual s.store v k) (attribute_answer s v k) a r
@@ -237,16 +237,16 @@ module _ (s : Setting) (calls : Rules.StoredCalls) (G H : Rules.MayAnswer) (less
   less_rule (slot i) a r = inl r
   less_rule (unknown n t) a r = inl r
   less_rule (if_then_else c t e) a (x, g, h) =
-      through (λ y. Rules.AfterGuard H y t e) c x a refl g (less_guard x t e a h)
-  less_rule (both t u) a (x, g, h) = through (λ y. Rules.AfterAndLeft H y u) t x a refl g (less_and x u a h)
-  less_rule (either t u) a (x, g, h) = through (λ y. Rules.AfterOrLeft H y u) t x a refl g (less_or x u a h)
+      through (λ y. Rules.Then y (Rules.AfterGuard H t e)) c x a refl g (less_guard x t e a h)
+  less_rule (both t u) a (x, g, h) = through (λ y. Rules.Then y (Rules.AfterAndLeft H u)) t x a refl g (less_and x u a h)
+  less_rule (either t u) a (x, g, h) = through (λ y. Rules.Then y (Rules.AfterOrLeft H u)) t x a refl g (less_or x u a h)
   less_rule (unary op t) a (x, g, e) = less_on_part _ _ t x a g e
   less_rule (binary op t u) a (x, g, h) =
-      through (λ y. Rules.AfterLeft H s op y u) t x a refl g (less_left op x u a h)
+      through (λ y. Rules.Then y (Rules.AfterLeft H s op u)) t x a refl g (less_left op x u a h)
   less_rule (call f ts) a (r, g, h) =
       or_map (λ k. (r, k, h)) (λ k. (Err recursion_limit, k, refl)) (less_parts ts r g)
   less_rule (get_attribute t k) a (x, g, h) =
-      through (λ y. Rules.AtAttribute H s y k) t x a refl g (less_attribute x k a h)
+      through (λ y. Rules.Then y (Rules.AtAttribute H s k)) t x a refl g (less_attribute x k a h)
   less_rule (has_attribute t k) a (x, g, e) = through (λ y b. b ≡ Rules.has_part s k y) t x a refl g (inl e)
   less_rule (extended_has t k ks) a (x, g, h) =
       through (λ y. Rules.AtPath H s.resolution s.store y k ks) t x a (path_stops s.resolution k ks) g

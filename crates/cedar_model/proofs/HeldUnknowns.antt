@@ -19,7 +19,7 @@ use Rattle.cedar_model.specs.Settings.{residual_context, Setting, entry_part, co
 use Rattle.cedar_model.specs.Settings.{Resolution, shallow, deep, variable_part}
 use Rattle.cedar_model.specs.Operators
 use Rattle.cedar_model.specs.Rules
-use Rattle.cedar_model.specs.RestrictedLaws.{HoldsUnknown, ResidualsHoldUnknowns}
+use Rattle.cedar_model.specs.laws.Restricted.{HoldsUnknown, ResidualsHoldUnknowns}
 use Rattle.cedar_model.proofs.Resolving as resolving
 use Rattle.cedar_model.proofs.Operands as operands
 use Rattle.cedar_model.proofs.Operands.{Facts, AllAnswer, AllPart}
@@ -279,7 +279,7 @@ module _ (s : Setting) (calls : Rules.StoredCalls) (given : ResidualsHoldUnknown
     held_takes (Some true) v t e a r = ih t a r
     held_takes (Some false) v t e a r = ih e a r
 
-    held_guard : (x : Answer) (t e : Term) (a : Answer) → Held x → Rules.AfterGuard G x t e a → Held a
+    held_guard : (x : Answer) (t e : Term) (a : Answer) → Held x → Rules.Then x (Rules.AfterGuard G t e) a → Held a
     held_guard (fails f) t e a h r = held_by a (fails f) r tt
     held_guard (answers (value v)) t e a h r = held_takes (bool_of (abstract_value v)) v t e a r
     held_guard (answers (residual z)) t e a h (x, g, k) =
@@ -298,7 +298,7 @@ module _ (s : Setting) (calls : Rules.StoredCalls) (given : ResidualsHoldUnknown
     held_and_bool (Some true) v t a r = held_right _ (λ q f. f) t a r
     held_and_bool (Some false) v t a r = held_by a _ r tt
 
-    held_and : (x : Answer) (t : Term) (a : Answer) → Held x → Rules.AfterAndLeft G x t a → Held a
+    held_and : (x : Answer) (t : Term) (a : Answer) → Held x → Rules.Then x (Rules.AfterAndLeft G t) a → Held a
     held_and (fails e) t a h r = held_by a (fails e) r tt
     held_and (answers (value v)) t a h r = held_and_bool (bool_of (abstract_value v)) v t a r
     held_and (answers (residual z)) t a h r = held_beside_kept (both z) (λ u. or_left _ _ h) t a r
@@ -308,12 +308,12 @@ module _ (s : Setting) (calls : Rules.StoredCalls) (given : ResidualsHoldUnknown
     held_or_bool (Some true) v t a r = held_by a _ r tt
     held_or_bool (Some false) v t a r = held_right _ (λ q f. f) t a r
 
-    held_or : (x : Answer) (t : Term) (a : Answer) → Held x → Rules.AfterOrLeft G x t a → Held a
+    held_or : (x : Answer) (t : Term) (a : Answer) → Held x → Rules.Then x (Rules.AfterOrLeft G t) a → Held a
     held_or (fails e) t a h r = held_by a (fails e) r tt
     held_or (answers (value v)) t a h r = held_or_bool (bool_of (abstract_value v)) v t a r
     held_or (answers (residual z)) t a h r = held_beside_kept (either z) (λ u. or_left _ _ h) t a r
 
-    held_left : (op : BinaryOperator) (x : Answer) (t : Term) (a : Answer) → Held x → Rules.AfterLeft G s op x t a →
+    held_left : (op : BinaryOperator) (x : Answer) (t : Term) (a : Answer) → Held x → Rules.Then x (Rules.AfterLeft G s op t) a →
         Held a
     held_left op (fails e) t a h r = held_by a (fails e) r tt
     held_left op (answers p) t a h (y, g, e) =
@@ -357,7 +357,7 @@ module _ (s : Setting) (calls : Rules.StoredCalls) (given : ResidualsHoldUnknown
     held_at_fields None r k a h j = held_by a _ j h
     held_at_fields (Some fs) r k a h j = held_at_key (Operators.term_at k fs) fs r k a h j
 
-    held_attribute : (x : Answer) (k : Text) (a : Answer) → Held x → Rules.AtAttribute G s x k a → Held a
+    held_attribute : (x : Answer) (k : Text) (a : Answer) → Held x → Rules.Then x (Rules.AtAttribute G s k) a → Held a
     held_attribute (fails e) k a h j = held_by a (fails e) j tt
     held_attribute (answers (value v)) k a h j =
         resolving.resolved G Held s.resolution (Operators.attribute_residual s.store v k) _ a

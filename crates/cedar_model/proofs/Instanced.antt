@@ -19,13 +19,13 @@ use Rattle.cedar_model.specs.Chains.{substituted, value_for, at_step}
 use Rattle.cedar_model.specs.Rules
 use Rattle.cedar_model.specs.Agreement
 use Rattle.cedar_model.specs.Agreement.{IsCompletion, AgreesAt, height}
-use Rattle.cedar_model.specs.LevelLaws.{FunctionsAnswer}
+use Rattle.cedar_model.specs.laws.Levels.{FunctionsAnswer}
 use Rattle.cedar_model.specs.Restricted.{IsSound, IsSoundPart, first_disallowed, or_else}
-use Rattle.cedar_model.specs.RestrictedLaws.{HoldsUnknown}
+use Rattle.cedar_model.specs.laws.Restricted.{HoldsUnknown}
 use Rattle.cedar_model.specs.Depth.{substituted_height}
 use Rattle.cedar_model.specs.Printing.{unquoted, id_here, with_byte, read_entity}
-use Rattle.cedar_model.specs.Instances
-use Rattle.cedar_model.specs.Examples.{some_calls, some_extensions, user}
+use Rattle.cedar_model.specs.examples.Instances
+use Rattle.cedar_model.specs.examples.Setting.{some_calls, some_extensions, user}
 use Rattle.cedar_model.proofs.Computed.{opened, meaning_opened, some_answer}
 use Rattle.cedar_model.proofs.Total.{total}
 use Rattle.cedar_model.proofs.Printed.{come_back}

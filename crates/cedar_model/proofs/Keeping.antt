@@ -18,8 +18,8 @@ use Rattle.cedar_model.specs.Chains.{Mapping, Response, is_true, is_false, is_re
 use Rattle.cedar_model.specs.Authorizations.{HaveNoLimit}
 use Rattle.cedar_model.specs.Reports
 use Rattle.cedar_model.specs.Reports.{some_row, ids, trues, residuals}
-use Rattle.cedar_model.specs.ReportLaws.{Within}
-use Rattle.cedar_model.specs.ChainLaws
+use Rattle.cedar_model.specs.laws.Reports.{Within}
+use Rattle.cedar_model.specs.laws.Chains as ChainLaws
 use Rattle.cedar_model.proofs.Recorded
 use Rattle.cedar_model.proofs.Carried
 use Rattle.cedar_model.proofs.Chained.{sorted_is}

@@ -2,7 +2,7 @@
 use Rattle.std.proofs.Common.{refl, arith}
 use Rattle.cedar_model.specs.Terms.{bool_literal, long_literal, text_literal, entity_literal}
 use Rattle.cedar_model.specs.Values.{plain, set_value, record_value, extension_value}
-use Rattle.cedar_model.specs.KindLaws.{kind_rank, KindsComeInOrder, SetsAreOrdered, RecordsAreOrdered}
+use Rattle.cedar_model.specs.laws.Kinds.{kind_rank, KindsComeInOrder, SetsAreOrdered, RecordsAreOrdered}
 
 pub in_order : KindsComeInOrder
 unfolding kind_rank

@@ -165,7 +165,7 @@ module _ (ans : Functions) (calls : Rules.StoredCalls) (agree : Agreement.Agrees
 
     guard_exact : (L P : Type 0) → (L → P) → (x : Answer) (o : Outcome) (t e : Term) (a : Answer)
         → Agreement.IsKnown ans t → Agreement.IsKnown ans e → (n < Agreement.height t → P)
-        → (n < Agreement.height e → P) → Exact L x o → Rules.AfterGuard G x t e a
+        → (n < Agreement.height e → P) → Exact L x o → Rules.Then x (Rules.AfterGuard G t e) a
         → Exact P a (Meaning.and_then_bool o (λ c. cond c (M t) (M e)))
     guard_exact L P g (fails f) o t e a kt ke pt pe z r =
         by_equal P a (fails f) _ r (kind_bind L P g (failure_kind f) o _ z)
@@ -178,7 +178,7 @@ module _ (ans : Functions) (calls : Rules.StoredCalls) (agree : Agreement.Agrees
     right_exact P h t a k p (x, g, e) = by_equal P a _ _ e (joined_exact _ P p h x (M t) (ih t x k g))
 
     and_exact : (L P : Type 0) → (L → P) → (x : Answer) (o : Outcome) (t : Term) (a : Answer) → Agreement.IsKnown ans t
-        → (n < Agreement.height t → P) → Exact L x o → Rules.AfterAndLeft G x t a
+        → (n < Agreement.height t → P) → Exact L x o → Rules.Then x (Rules.AfterAndLeft G t) a
         → Exact P a (Meaning.and_then_bool o (λ c. cond c (Meaning.and_then_bool (M t) gives_bool) (gives_bool false)))
     unfolding needing
     and_exact L P g (fails f) o t a k p z r = by_equal P a (fails f) _ r (kind_bind L P g (failure_kind f) o _ z)
@@ -193,7 +193,7 @@ module _ (ans : Functions) (calls : Rules.StoredCalls) (agree : Agreement.Agrees
     and_exact L P g (answers (residual q)) o t a k p z r = absurd z
 
     or_exact : (L P : Type 0) → (L → P) → (x : Answer) (o : Outcome) (t : Term) (a : Answer) → Agreement.IsKnown ans t
-        → (n < Agreement.height t → P) → Exact L x o → Rules.AfterOrLeft G x t a
+        → (n < Agreement.height t → P) → Exact L x o → Rules.Then x (Rules.AfterOrLeft G t) a
         → Exact P a (Meaning.and_then_bool o (λ c. cond c (gives_bool true) (Meaning.and_then_bool (M t) gives_bool)))
     unfolding needing
     or_exact L P g (fails f) o t a k p z r = by_equal P a (fails f) _ r (kind_bind L P g (failure_kind f) o _ z)
@@ -218,7 +218,7 @@ module _ (ans : Functions) (calls : Rules.StoredCalls) (agree : Agreement.Agrees
     beside_exact L P g op v (fails e) o z = kind_bind L P g (failure_kind e) o _ z
 
     left_exact : (L P : Type 0) → (L → P) → (op : BinaryOperator) (x : Answer) (o : Outcome) (t : Term) (a : Answer)
-        → Agreement.IsKnown ans t → (n < Agreement.height t → P) → Exact L x o → Rules.AfterLeft G s op x t a
+        → Agreement.IsKnown ans t → (n < Agreement.height t → P) → Exact L x o → Rules.Then x (Rules.AfterLeft G s op t) a
         → Exact P a (and_then o (λ u. and_then (M t) (λ v. Meaning.binary_meaning s.extensions w op u v)))
     left_exact L P g op (fails f) o t a k p z r = by_equal P a (fails f) _ r (kind_bind L P g (failure_kind f) o _ z)
     left_exact L P g op (answers (value v)) o t a k p (u, q) (y, j, e) =
@@ -228,7 +228,7 @@ module _ (ans : Functions) (calls : Rules.StoredCalls) (agree : Agreement.Agrees
     left_exact L P g op (answers (residual q)) o t a k p z r = absurd z
 
     attribute_exact : (L P : Type 0) → (L → P) → (k : Text) (x : Answer) (o : Outcome) (a : Answer) → Exact L x o
-        → Rules.AtAttribute G s x k a → Exact P a (and_then o (λ v. Meaning.attribute_meaning w v k))
+        → Rules.Then x (Rules.AtAttribute G s k) a → Exact P a (and_then o (λ v. Meaning.attribute_meaning w v k))
     attribute_exact L P g k (fails f) o a z r = by_equal P a (fails f) _ r (kind_bind L P g (failure_kind f) o _ z)
     attribute_exact L P g k (answers (value v)) o a (u, q) r =
         value_bind P a (abstract_value v) o _ q

@@ -137,7 +137,7 @@ module _ (m : Mapping) where
             )) (λ i j'. by_failure m (suc n) a i j')) (λ i j'. by_failure m (suc n) a i j')
 
         pub guard_low : (n : ℕ) (x : Answer) (t e : Term) (a : Answer) → LowAnswer n x → height t + b ≤ n →
-            height e + b ≤ n → Rules.AfterGuard G x t e a → LowAnswer (suc n) a
+            height e + b ≤ n → Rules.Then x (Rules.AfterGuard G t e) a → LowAnswer (suc n) a
         guard_low n (fails f) t e a g p q r = by_failure m (suc n) a f r
         guard_low n (answers (value v)) t e a g p q r = takes_low n (bool_of (abstract_value v)) v t e a p q r
         guard_low n (answers (residual z)) t e a g p q r = branches_low n z t e a g.0 p q r
@@ -172,7 +172,7 @@ module _ (m : Mapping) where
         and_bool_low n (Some false) v t a e p r = by_equal m (suc n) a _ r (low_bool m (suc n) false (omega arith))
 
         pub and_low : (n : ℕ) (x : Answer) (t : Term) (a : Answer) → 1 ≤ n → LowAnswer n x → height t + b ≤ n →
-            Rules.AfterAndLeft G x t a → LowAnswer (suc n) a
+            Rules.Then x (Rules.AfterAndLeft G t) a → LowAnswer (suc n) a
         and_low n (fails f) t a e g p r = by_failure m (suc n) a f r
         and_low n (answers (value v)) t a e g p r = and_bool_low n (bool_of (abstract_value v)) v t a e p r
         and_low n (answers (residual z)) t a e g p r = kept_low n (both z) (λ q f. both_beside n z q g.0 f) t a p r
@@ -185,14 +185,14 @@ module _ (m : Mapping) where
             right_low n _ (λ q f. either_beside n (literal (bool_literal false)) q (literal_low n _ e) f) t a p r
 
         pub or_low : (n : ℕ) (x : Answer) (t : Term) (a : Answer) → 1 ≤ n → LowAnswer n x → height t + b ≤ n →
-            Rules.AfterOrLeft G x t a → LowAnswer (suc n) a
+            Rules.Then x (Rules.AfterOrLeft G t) a → LowAnswer (suc n) a
         or_low n (fails f) t a e g p r = by_failure m (suc n) a f r
         or_low n (answers (value v)) t a e g p r = or_bool_low n (bool_of (abstract_value v)) v t a e p r
         or_low n (answers (residual z)) t a e g p r =
             kept_low n (either z) (λ q f. either_beside n z q g.0 f) t a p r
 
         pub left_low : (n : ℕ) (op : BinaryOperator) (x : Answer) (t : Term) (a : Answer) → suc b ≤ n → LowAnswer n x →
-            height t + b ≤ n → Rules.AfterLeft G s op x t a → LowAnswer (suc n) a
+            height t + b ≤ n → Rules.Then x (Rules.AfterLeft G s op t) a → LowAnswer (suc n) a
         left_low n op (fails f) t a e g p r = by_failure m (suc n) a f r
         left_low n op (answers q) t a e g p (y, k, r) =
             read_low (suc n) (Rules.beside_residual s.store op q y) _ a (omega arith)
@@ -222,7 +222,7 @@ module _ (m : Mapping) where
         at_fields_low n (Some fs) r k a e f j = at_key_low n (Operators.term_at k fs) fs r k a e f refl j
 
         pub attribute_low : (n : ℕ) (x : Answer) (k : Text) (a : Answer) → suc b ≤ n → LowAnswer n x →
-            Rules.AtAttribute G s x k a → LowAnswer (suc n) a
+            Rules.Then x (Rules.AtAttribute G s k) a → LowAnswer (suc n) a
         attribute_low n (fails f) k a e g j = by_failure m (suc n) a f j
         attribute_low n (answers (value v)) k a e g j =
             read_low (suc n) (Operators.attribute_residual s.store v k) _ a (omega arith)

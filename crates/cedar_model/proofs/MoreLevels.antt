@@ -51,8 +51,8 @@ module _ (s : Setting) (calls : Rules.StoredCalls) (G H : Rules.MayAnswer)
         (λ t' (y, k, l). (y, keep e y k (best_not_limit y e _ a l n), l)) h,
   )
 
-  keep_guard : (x : Answer) (t e : Term) (a : Answer) → Rules.AfterGuard G x t e a → a ≢ limit → (x ≢ limit)
-      × Rules.AfterGuard H x t e a
+  keep_guard : (x : Answer) (t e : Term) (a : Answer) → Rules.Then x (Rules.AfterGuard G t e) a → a ≢ limit → (x ≢ limit)
+      × Rules.Then x (Rules.AfterGuard H t e) a
   keep_guard (fails f) t e a r n = (λ q. n (r ∙ q), r)
   keep_guard (answers (value v)) t e a r n =
       (answers≢limit (value v), keep_takes (bool_of (abstract_value v)) v t e a r n)
@@ -73,8 +73,8 @@ module _ (s : Setting) (calls : Rules.StoredCalls) (G H : Rules.MayAnswer)
   keep_and_bool (Some true) v t a r n = keep_right _ t a r n
   keep_and_bool (Some false) v t a r n = r
 
-  keep_and : (x : Answer) (t : Term) (a : Answer) → Rules.AfterAndLeft G x t a → a ≢ limit → (x ≢ limit)
-      × Rules.AfterAndLeft H x t a
+  keep_and : (x : Answer) (t : Term) (a : Answer) → Rules.Then x (Rules.AfterAndLeft G t) a → a ≢ limit → (x ≢ limit)
+      × Rules.Then x (Rules.AfterAndLeft H t) a
   keep_and (fails e) t a r n = (λ q. n (r ∙ q), r)
   keep_and (answers (value v)) t a r n =
       (answers≢limit (value v), keep_and_bool (bool_of (abstract_value v)) v t a r n)
@@ -86,8 +86,8 @@ module _ (s : Setting) (calls : Rules.StoredCalls) (G H : Rules.MayAnswer)
   keep_or_bool (Some true) v t a r n = r
   keep_or_bool (Some false) v t a r n = keep_right _ t a r n
 
-  keep_or : (x : Answer) (t : Term) (a : Answer) → Rules.AfterOrLeft G x t a → a ≢ limit → (x ≢ limit)
-      × Rules.AfterOrLeft H x t a
+  keep_or : (x : Answer) (t : Term) (a : Answer) → Rules.Then x (Rules.AfterOrLeft G t) a → a ≢ limit → (x ≢ limit)
+      × Rules.Then x (Rules.AfterOrLeft H t) a
   keep_or (fails e) t a r n = (λ q. n (r ∙ q), r)
   keep_or (answers (value v)) t a r n =
       (answers≢limit (value v), keep_or_bool (bool_of (abstract_value v)) v t a r n)
@@ -106,8 +106,8 @@ module _ (s : Setting) (calls : Rules.StoredCalls) (G H : Rules.MayAnswer)
   keep_beside op p t (fails e) a g h n = keep t (fails e) g (λ q. n (nothing_read G s.resolution (fails e) a h ∙ q))
   keep_beside op p t (answers q) a g h n = keep t (answers q) g (answers≢limit q)
 
-  keep_left : (op : BinaryOperator) (x : Answer) (t : Term) (a : Answer) → Rules.AfterLeft G s op x t a → a ≢ limit
-      → (x ≢ limit) × Rules.AfterLeft H s op x t a
+  keep_left : (op : BinaryOperator) (x : Answer) (t : Term) (a : Answer) → Rules.Then x (Rules.AfterLeft G s op t) a → a ≢ limit
+      → (x ≢ limit) × Rules.Then x (Rules.AfterLeft H s op t) a
   keep_left op (fails e) t a r n = (λ q. n (r ∙ q), r)
   keep_left op (answers p) t a (y, g, e) n = (
     answers≢limit p,
@@ -168,8 +168,8 @@ module _ (s : Setting) (calls : Rules.StoredCalls) (G H : Rules.MayAnswer)
   keep_at_fields None r k a h n = h
   keep_at_fields (Some fs) r k a h n = keep_at_key (term_at k fs) fs r k a h n
 
-  keep_attribute : (x : Answer) (k : Text) (a : Answer) → Rules.AtAttribute G s x k a → a ≢ limit → (x ≢ limit)
-      × Rules.AtAttribute H s x k a
+  keep_attribute : (x : Answer) (k : Text) (a : Answer) → Rules.Then x (Rules.AtAttribute G s k) a → a ≢ limit → (x ≢ limit)
+      × Rules.Then x (Rules.AtAttribute H s k) a
   keep_attribute (fails e) k a r n = (λ q. n (r ∙ q), r)
   keep_attribute (answers (value v)) k a r n = (
     answers≢limit (value v),
@@ -303,8 +303,8 @@ module _ (s : Setting) (calls : Rules.StoredCalls) where
         ),
       )
 
-  gather_guard : (x : Answer) (t e : Term) (a : Answer) → Rules.AfterGuard (Rules.Allows s calls) x t e a → (n : ℕ)
-      × Rules.AfterGuard (Within n) x t e a
+  gather_guard : (x : Answer) (t e : Term) (a : Answer) → Rules.Then x (Rules.AfterGuard (Rules.Allows s calls) t e) a → (n : ℕ)
+      × Rules.Then x (Rules.AfterGuard (Within n) t e) a
   gather_guard (fails f) t e a r = (0, r)
   gather_guard (answers (value v)) t e a r = gather_takes (bool_of (abstract_value v)) v t e a r
   gather_guard (answers (residual q)) t e a r = gather_branches q t e a r
@@ -315,8 +315,8 @@ module _ (s : Setting) (calls : Rules.StoredCalls) where
   gather_and_bool (Some true) v t a (x, (ne, n, g), e) = (n, (x, (ne, g), e))
   gather_and_bool (Some false) v t a r = (0, r)
 
-  gather_and : (x : Answer) (t : Term) (a : Answer) → Rules.AfterAndLeft (Rules.Allows s calls) x t a → (n : ℕ)
-      × Rules.AfterAndLeft (Within n) x t a
+  gather_and : (x : Answer) (t : Term) (a : Answer) → Rules.Then x (Rules.AfterAndLeft (Rules.Allows s calls) t) a → (n : ℕ)
+      × Rules.Then x (Rules.AfterAndLeft (Within n) t) a
   gather_and (fails e) t a r = (0, r)
   gather_and (answers (value v)) t a r = gather_and_bool (bool_of (abstract_value v)) v t a r
   gather_and (answers (residual q)) t a (x, (ne, n, g), h) = (n, (x, (ne, g), h))
@@ -327,8 +327,8 @@ module _ (s : Setting) (calls : Rules.StoredCalls) where
   gather_or_bool (Some true) v t a r = (0, r)
   gather_or_bool (Some false) v t a (x, (ne, n, g), e) = (n, (x, (ne, g), e))
 
-  gather_or : (x : Answer) (t : Term) (a : Answer) → Rules.AfterOrLeft (Rules.Allows s calls) x t a → (n : ℕ)
-      × Rules.AfterOrLeft (Within n) x t a
+  gather_or : (x : Answer) (t : Term) (a : Answer) → Rules.Then x (Rules.AfterOrLeft (Rules.Allows s calls) t) a → (n : ℕ)
+      × Rules.Then x (Rules.AfterOrLeft (Within n) t) a
   gather_or (fails e) t a r = (0, r)
   gather_or (answers (value v)) t a r = gather_or_bool (bool_of (abstract_value v)) v t a r
   gather_or (answers (residual q)) t a (x, (ne, n, g), h) = (n, (x, (ne, g), h))
@@ -346,7 +346,7 @@ module _ (s : Setting) (calls : Rules.StoredCalls) where
   widen_resolves n m e deep (Some t) x a h = widen n m e t a h
 
   gather_left : (op : BinaryOperator) (x : Answer) (t : Term) (a : Answer)
-      → Rules.AfterLeft (Rules.Allows s calls) s op x t a → (n : ℕ) × Rules.AfterLeft (Within n) s op x t a
+      → Rules.Then x (Rules.AfterLeft (Rules.Allows s calls) s op t) a → (n : ℕ) × Rules.Then x (Rules.AfterLeft (Within n) s op t) a
   gather_left op (fails e) t a r = (0, r)
   gather_left op (answers p) t a (y, (ne, n, g), h) =
       let k = gather_resolves s.resolution (Rules.beside_residual s.store op p y)
@@ -434,8 +434,8 @@ module _ (s : Setting) (calls : Rules.StoredCalls) where
   gather_at_fields None r k a h = (0, h)
   gather_at_fields (Some fs) r k a h = gather_at_key (term_at k fs) fs r k a h
 
-  gather_attribute : (x : Answer) (k : Text) (a : Answer) → Rules.AtAttribute (Rules.Allows s calls) s x k a → (n : ℕ)
-      × Rules.AtAttribute (Within n) s x k a
+  gather_attribute : (x : Answer) (k : Text) (a : Answer) → Rules.Then x (Rules.AtAttribute (Rules.Allows s calls) s k) a → (n : ℕ)
+      × Rules.Then x (Rules.AtAttribute (Within n) s k) a
   gather_attribute (fails e) k a r = (0, r)
   gather_attribute (answers (value v)) k a r =
       gather_resolves s.resolution (attribute_residual s.store v k) (attribute_answer s v k) a r
@@ -443,8 +443,8 @@ module _ (s : Setting) (calls : Rules.StoredCalls) where
 
   -- both at the greater number of levels
   join_guard : (n m : ℕ) (x : Answer) (c t e : Term) (a : Answer) → a ≢ limit → Within n c x
-      → Rules.AfterGuard (Within m) x t e a → (k : ℕ) × (y : Answer) × Rules.Runs s calls k c y
-      × Rules.AfterGuard (Rules.Runs s calls k) y t e a
+      → Rules.Then x (Rules.AfterGuard (Within m) t e) a → (k : ℕ) × (y : Answer) × Rules.Runs s calls k c y
+      × Rules.Then y (Rules.AfterGuard (Rules.Runs s calls k) t e) a
   join_guard n m x c t e a ne g h = (
     max n m,
     x,

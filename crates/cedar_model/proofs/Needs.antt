@@ -12,7 +12,7 @@ use Rattle.cedar_model.specs.Rules
 use Rattle.cedar_model.specs.Agreement.{height, greatest_height, greatest_height_at}
 use Rattle.cedar_model.specs.Chains.{substituted}
 use Rattle.cedar_model.specs.Restricted.{IsGivenSound}
-use Rattle.cedar_model.specs.LevelLaws.{FunctionsMeetNoLimit}
+use Rattle.cedar_model.specs.laws.Levels.{FunctionsMeetNoLimit}
 use Rattle.cedar_model.specs.Depth.{IsNoHigher, bound_of}
 use Rattle.cedar_model.proofs.PartLimits as limits
 use Rattle.cedar_model.proofs.RecordParts.{restricted_part}

@@ -15,7 +15,7 @@ use Rattle.cedar_model.specs.Failures.{answers_bool, fails, limit, part_expressi
 use Rattle.cedar_model.specs.Settings.{Resolution, shallow, deep, Setting}
 use Rattle.cedar_model.specs.Operators
 use Rattle.cedar_model.specs.Rules
-use Rattle.cedar_model.specs.LevelLaws.{FunctionsMeetNoLimit}
+use Rattle.cedar_model.specs.laws.Levels.{FunctionsMeetNoLimit}
 use Rattle.cedar_model.proofs.Operands as operands
 use Rattle.cedar_model.proofs.Operands.{Facts, AllAnswer, AllPart}
 use Rattle.cedar_model.proofs.MoreLevels.{answers≢limit}
@@ -161,7 +161,7 @@ module _ (s : Setting) (calls : Rules.StoredCalls) (answered : FunctionsMeetNoLi
           last (inl k) = k
           last (inr (z, k)) = absurd (part_met _ a k q)
 
-  guard_met : (x : Answer) (t e : Term) (a : Answer) → Rules.AfterGuard G x t e a → a ≡ limit →
+  guard_met : (x : Answer) (t e : Term) (a : Answer) → Rules.Then x (Rules.AfterGuard G t e) a → a ≡ limit →
       (x ≡ limit) ⊎ (L t ⊎ L e)
   guard_met (fails f) t e a r q = inl (sym r ∙ q)
   guard_met (answers (value v)) t e a r q = inr (takes_met (bool_of (abstract_value v)) v t e a r q)
@@ -194,7 +194,7 @@ module _ (s : Setting) (calls : Rules.StoredCalls) (answered : FunctionsMeetNoLi
   and_bool_met (Some true) v t a r q = right_met _ t a r q
   and_bool_met (Some false) v t a r q = absurd (part_met _ a r q)
 
-  and_met : (x : Answer) (t : Term) (a : Answer) → Rules.AfterAndLeft G x t a → a ≡ limit → (x ≡ limit) ⊎ L t
+  and_met : (x : Answer) (t : Term) (a : Answer) → Rules.Then x (Rules.AfterAndLeft G t) a → a ≡ limit → (x ≡ limit) ⊎ L t
   and_met (fails e) t a r q = inl (sym r ∙ q)
   and_met (answers (value v)) t a r q = inr (and_bool_met (bool_of (abstract_value v)) v t a r q)
   and_met (answers (residual r')) t a r q = inr (kept_met _ t a r q)
@@ -204,7 +204,7 @@ module _ (s : Setting) (calls : Rules.StoredCalls) (answered : FunctionsMeetNoLi
   or_bool_met (Some true) v t a r q = absurd (part_met _ a r q)
   or_bool_met (Some false) v t a r q = right_met _ t a r q
 
-  or_met : (x : Answer) (t : Term) (a : Answer) → Rules.AfterOrLeft G x t a → a ≡ limit → (x ≡ limit) ⊎ L t
+  or_met : (x : Answer) (t : Term) (a : Answer) → Rules.Then x (Rules.AfterOrLeft G t) a → a ≡ limit → (x ≡ limit) ⊎ L t
   or_met (fails e) t a r q = inl (sym r ∙ q)
   or_met (answers (value v)) t a r q = inr (or_bool_met (bool_of (abstract_value v)) v t a r q)
   or_met (answers (residual r')) t a r q = inr (kept_met _ t a r q)
@@ -245,7 +245,7 @@ module _ (s : Setting) (calls : Rules.StoredCalls) (answered : FunctionsMeetNoLi
       inr (resolves_met (Rules.binary_of_parts s op p z) a (Rules.beside_residual s.store op p (answers z))
       (parts_met op p z) (λ r e. beside_is_stored s.store op p (answers z) r e) h q)
 
-  left_met : (op : BinaryOperator) (x : Answer) (t : Term) (a : Answer) → Rules.AfterLeft G s op x t a → a ≡ limit →
+  left_met : (op : BinaryOperator) (x : Answer) (t : Term) (a : Answer) → Rules.Then x (Rules.AfterLeft G s op t) a → a ≡ limit →
       (x ≡ limit) ⊎ (L t ⊎ MeetsStored)
   left_met op (fails e) t a r q = inl (sym r ∙ q)
   left_met op (answers p) t a (y, g, h) q = inr (beside_met op p t y a g h q)
@@ -339,7 +339,7 @@ module _ (s : Setting) (calls : Rules.StoredCalls) (answered : FunctionsMeetNoLi
   at_fields_met t r k a g None e h q = absurd (part_met _ a h q)
   at_fields_met t r k a g (Some fs) e h q = at_key_met t r fs k a g e (Operators.term_at k fs) refl h q
 
-  attribute_met : (t : Term) (x : Answer) (k : Text) (a : Answer) → G t x → Rules.AtAttribute G s x k a → a ≡ limit →
+  attribute_met : (t : Term) (x : Answer) (k : Text) (a : Answer) → G t x → Rules.Then x (Rules.AtAttribute G s k) a → a ≡ limit →
       (x ≡ limit) ⊎ (MeetsProjected t k ⊎ MeetsStored)
   attribute_met t (fails e) k a g r q = inl (sym r ∙ q)
   attribute_met t (answers (value v)) k a g r q =

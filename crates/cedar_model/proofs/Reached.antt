@@ -11,7 +11,7 @@ use Rattle.cedar_model.specs.Failures.{Answer}
 use Rattle.cedar_model.specs.Settings.{deep, Setting}
 use Rattle.cedar_model.specs.Agreement.{EachStored, IsRestrictedPart}
 use Rattle.cedar_model.specs.Rules
-use Rattle.cedar_model.specs.LevelLaws.{FunctionsAnswer, FunctionsMeetNoLimit}
+use Rattle.cedar_model.specs.laws.Levels.{FunctionsAnswer, FunctionsMeetNoLimit}
 use Rattle.cedar_model.proofs.PartLimits as limits
 use Rattle.cedar_model.proofs.MoreLevels.{rule_is_allowed}
 use Rattle.cedar_model.proofs.Resolving.{IsStored, each_stored}

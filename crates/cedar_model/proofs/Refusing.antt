@@ -15,7 +15,7 @@ use Rattle.cedar_model.specs.Refusals
 use Rattle.cedar_model.specs.Refusals.{Refusal, context_fails}
 use Rattle.cedar_model.specs.Chains
 use Rattle.cedar_model.specs.Chains.{Mapping, Response}
-use Rattle.cedar_model.specs.ChainLaws
+use Rattle.cedar_model.specs.laws.Chains as ChainLaws
 use Rattle.cedar_model.proofs.Determined.{runs_determined}
 use Rattle.cedar_model.proofs.Configured.{configured_by}
 

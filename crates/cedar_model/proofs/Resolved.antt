@@ -13,9 +13,9 @@ use Rattle.cedar_model.specs.Restricted.{IsSoundPart}
 use Rattle.cedar_model.specs.Depth.{substituted_height}
 use Rattle.cedar_model.specs.Chains.{substituted, substituted_at, value_for}
 use Rattle.cedar_model.specs.Agreement.{height}
-use Rattle.cedar_model.specs.LevelLaws.{FunctionsAnswer}
-use Rattle.cedar_model.specs.Examples.{example_entity, some_calls, some_extensions}
-use Rattle.cedar_model.specs.Instances
+use Rattle.cedar_model.specs.laws.Levels.{FunctionsAnswer}
+use Rattle.cedar_model.specs.examples.Setting.{example_entity, some_calls, some_extensions}
+use Rattle.cedar_model.specs.examples.Instances
 use Rattle.cedar_model.specs.Resolutions
 use Rattle.cedar_model.proofs.Computed.{opened, some_answer}
 use Rattle.cedar_model.proofs.Instanced.{computed_with}

@@ -29,7 +29,7 @@ use Rattle.cedar_model.specs.Operators
 use Rattle.cedar_model.specs.Rules
 use Rattle.cedar_model.specs.Restricted
 use Rattle.cedar_model.specs.Restricted.{IsSound, AreSound, AreSoundAt, IsSoundPart, IsSoundContext, IsGivenSound}
-use Rattle.cedar_model.specs.RestrictedLaws.{AnswersSound}
+use Rattle.cedar_model.specs.laws.Restricted.{AnswersSound}
 use Rattle.cedar_model.specs.Depth.{ContextFollows}
 
 -- ---- nothing of request, store and slots is read

@@ -165,7 +165,7 @@ module _ (ans : Functions) (w : World) (s : Setting) where
     at_fields_sound (Some fs) r k a o h z g =
         at_key_sound (Operators.term_at k fs) fs r k a o (Projection.record_is r fs h) refl z g
 
-    pub attribute_sound : (k : Text) (x : Answer) (o : Outcome) (a : Answer) → Sound x o → Rules.AtAttribute G s x k a
+    pub attribute_sound : (k : Text) (x : Answer) (o : Outcome) (a : Answer) → Sound x o → Rules.Then x (Rules.AtAttribute G s k) a
         → Sound a (and_then o (λ v. Meaning.attribute_meaning w v k))
     attribute_sound k (fails f) o a z r = by_equal ans w s a (fails f) _ r (error_bind ans w s f o _ z)
     attribute_sound k (answers (value v)) o a (f, e) r =

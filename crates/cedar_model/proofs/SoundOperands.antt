@@ -67,7 +67,7 @@ module _ (ans : Functions) (w : World) (s : Setting) where
         ((fr, ft', fe'), Binds.same_bool_bind (N r) o _ _ er (λ b. Binds.same_cond b (N t') (M t) (N e') (M e) et ee))))
 
     pub guard_sound : (x : Answer) (o : Outcome) (t e : Term) (a : Answer) → Agreement.Fits ans w t → Agreement.Fits ans w e
-        → Sound x o → Rules.AfterGuard G x t e a → Sound a (Meaning.and_then_bool o (λ c. cond c (M t) (M e)))
+        → Sound x o → Rules.Then x (Rules.AfterGuard G t e) a → Sound a (Meaning.and_then_bool o (λ c. cond c (M t) (M e)))
     guard_sound (fails f) o t e a ft fe z r = by_equal ans w s a (fails f) _ r (error_bind ans w s f o _ z)
     guard_sound (answers (value v)) o t e a ft fe (u, q) r =
         value_bind ans w s a (abstract_value v) o _ q (takes_sound (bool_of (abstract_value v)) v t e a ft fe r)
@@ -95,7 +95,7 @@ module _ (ans : Functions) (w : World) (s : Setting) where
     or_bool_sound (Some false) v t a f r = right_sound _ (λ r k. (tt, k)) (λ r. refl) t a f r
 
     pub and_sound : (x : Answer) (o : Outcome) (t : Term) (a : Answer) → Agreement.Fits ans w t → Sound x o
-        → Rules.AfterAndLeft G x t a → Sound a
+        → Rules.Then x (Rules.AfterAndLeft G t) a → Sound a
         (Meaning.and_then_bool o (λ c. cond c (Meaning.and_then_bool (M t) gives_bool) (gives_bool false)))
     unfolding Meaning.meaning
     and_sound (fails f) o t a ft z r = by_equal ans w s a (fails f) _ r (error_bind ans w s f o _ z)
@@ -110,7 +110,7 @@ module _ (ans : Functions) (w : World) (s : Setting) where
         ))
 
     pub or_sound : (x : Answer) (o : Outcome) (t : Term) (a : Answer) → Agreement.Fits ans w t → Sound x o
-        → Rules.AfterOrLeft G x t a → Sound a
+        → Rules.Then x (Rules.AfterOrLeft G t) a → Sound a
         (Meaning.and_then_bool o (λ c. cond c (gives_bool true) (Meaning.and_then_bool (M t) gives_bool)))
     unfolding Meaning.meaning
     or_sound (fails f) o t a ft z r = by_equal ans w s a (fails f) _ r (error_bind ans w s f o _ z)
@@ -236,7 +236,7 @@ module _ (ans : Functions) (w : World) (s : Setting) where
     beside_read op (residual q) (answers q') o m r a hp hq i g = absurd (cc)
 
     pub left_sound : (op : BinaryOperator) (x : Answer) (o : Outcome) (t : Term) (a : Answer) → Agreement.Fits ans w t
-        → Sound x o → Rules.AfterLeft G s op x t a
+        → Sound x o → Rules.Then x (Rules.AfterLeft G s op t) a
         → Sound a (and_then o (λ u. and_then (M t) (λ v. Meaning.binary_meaning s.extensions w op u v)))
     left_sound op (fails f) o t a ft z r = by_equal ans w s a (fails f) _ r (error_bind ans w s f o _ z)
     left_sound op (answers p) o t a ft z (y, j, e) =

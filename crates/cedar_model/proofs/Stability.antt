@@ -8,8 +8,8 @@ use Rattle.cedar_model.specs.Policies.{Policy, Effect, permit, forbid, Judged, j
 use Rattle.cedar_model.specs.Policies.{some_satisfied, ErrorHandling, skip, forbid_on_error, counting, counted_each}
 use Rattle.cedar_model.specs.Reordering.{IsReordering, nothing, keeping, swapping, chaining}
 use Rattle.cedar_model.specs.Authorizations.{Authorized, IsExactResponse}
-use Rattle.cedar_model.specs.AuthorizationLaws
-use Rattle.cedar_model.specs.AuthorizationLaws.{AgreeWhollyAs}
+use Rattle.cedar_model.specs.laws.Authorizations as AuthorizationLaws
+use Rattle.cedar_model.specs.laws.Authorizations.{AgreeWhollyAs}
 use Rattle.cedar_model.proofs.Counted
 use Rattle.cedar_model.specs.lemmas.Sets.{or_swap}
 

@@ -9,7 +9,7 @@ use Rattle.cedar_model.specs.Settings.{RequestPart, Setting}
 use Rattle.cedar_model.specs.Rules.{StoredCalls, Exceeds}
 use Rattle.cedar_model.specs.Agreement.{height}
 use Rattle.cedar_model.specs.Chains.{Mapping, at_step}
-use Rattle.cedar_model.specs.LevelLaws.{FunctionsMeetNoLimit}
+use Rattle.cedar_model.specs.laws.Levels.{FunctionsMeetNoLimit}
 use Rattle.cedar_model.specs.Restricted.{IsSound, IsGivenSound}
 use Rattle.cedar_model.specs.Depth.{ContextFollows, IsWithin, IsNoHigher, IsContextNoHigher, substituted_height}
 use Rattle.cedar_model.proofs.Needs.{need_below}

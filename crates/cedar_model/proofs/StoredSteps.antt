@@ -14,10 +14,10 @@ use Rattle.cedar_model.specs.Chains
 use Rattle.cedar_model.specs.Chains.{Mapping, Response}
 use Rattle.cedar_model.specs.Headline
 use Rattle.cedar_model.specs.Progress
-use Rattle.cedar_model.specs.Examples.{some_functions, some_extensions, example_entity}
+use Rattle.cedar_model.specs.examples.Setting.{some_functions, some_extensions, example_entity}
 use Rattle.cedar_model.specs.Resolutions.{the_set}
-use Rattle.cedar_model.specs.ChainExamples.{an_entity, a_number, empty_context}
-use Rattle.cedar_model.specs.StoredChains
+use Rattle.cedar_model.specs.examples.Chains.{an_entity, a_number, empty_context}
+use Rattle.cedar_model.specs.examples.StoredChains
 use Rattle.cedar_model.proofs.Exemplified
 use Rattle.cedar_model.proofs.TwoSteps.{functional, faithful}
 use Rattle.cedar_model.proofs.Injections.{some_inj, none_is_not_some}

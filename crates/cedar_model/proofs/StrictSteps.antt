@@ -9,9 +9,9 @@ use Rattle.cedar_model.specs.Agreement
 use Rattle.cedar_model.specs.Chains
 use Rattle.cedar_model.specs.Chains.{Mapping, Response}
 use Rattle.cedar_model.specs.Headline
-use Rattle.cedar_model.specs.Examples.{some_calls, some_functions, some_extensions}
-use Rattle.cedar_model.specs.ChainExamples.{no_map, empty_store, request_setting, known_request, strict_policies, x_is}
-use Rattle.cedar_model.specs.ChainExamples.{strict_world, shallow_step}
+use Rattle.cedar_model.specs.examples.Setting.{some_calls, some_functions, some_extensions}
+use Rattle.cedar_model.specs.examples.Chains.{no_map, empty_store, request_setting, known_request, strict_policies, x_is}
+use Rattle.cedar_model.specs.examples.Chains.{strict_world, shallow_step}
 use Rattle.cedar_model.proofs.Exemplified
 use Rattle.cedar_model.proofs.Configured.{configured_by}
 use Rattle.cedar_model.proofs.TwoSteps.{functional, faithful, nothing_stored}

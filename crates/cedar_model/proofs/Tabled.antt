@@ -4,8 +4,8 @@ use Rattle.std.proofs.Common.{refl, subst}
 use Rattle.cedar_model.specs.Terms.{Term}
 use Rattle.cedar_model.specs.Failures.{Answer, limit}
 use Rattle.cedar_model.specs.Rules.{Runs}
-use Rattle.cedar_model.specs.LevelLaws.{FunctionsAnswer}
-use Rattle.cedar_model.specs.Tables.{table, table_calls, table_extensions, table_setting, Shown}
+use Rattle.cedar_model.specs.laws.Levels.{FunctionsAnswer}
+use Rattle.cedar_model.specs.examples.Tables.{table, table_calls, table_extensions, table_setting, Shown}
 use Rattle.cedar_model.proofs.Total.{total}
 
 abbrev pub table_answer : FunctionsAnswer table_calls table_extensions.arity

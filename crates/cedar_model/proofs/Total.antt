@@ -18,7 +18,7 @@ use Rattle.cedar_model.specs.Operators.{term_at, key_is_missing, field_names, at
 use Rattle.cedar_model.specs.Operators.{walks_on, stops, walk_in, last_in, container_of, container_expected}
 use Rattle.cedar_model.specs.Operators.{attribute_residual}
 use Rattle.cedar_model.specs.Rules
-use Rattle.cedar_model.specs.LevelLaws.{FunctionsAnswer}
+use Rattle.cedar_model.specs.laws.Levels.{FunctionsAnswer}
 use Rattle.cedar_model.proofs.RecordParts.{projectable_part}
 use Rattle.cedar_model.proofs.Resolving.{IsStored, attribute_is_stored, beside_is_stored}
 
@@ -75,7 +75,7 @@ module _ (s : Setting) (calls : Rules.StoredCalls) (callable : FunctionsAnswer c
         (λ t'. second_branch r t' e y) in
         (k.0, (x.0, x.1, k.1))
 
-    abbrev guard_total : (c : Answer) (t e : Term) → Found t → Found e → (a : Answer) × Rules.AfterGuard G c t e a
+    abbrev guard_total : (c : Answer) (t e : Term) → Found t → Found e → (a : Answer) × Rules.Then c (Rules.AfterGuard G t e) a
     guard_total (fails f) t e x y = (fails f, refl)
     guard_total (answers (value v)) t e x y = takes_total (bool_of (abstract_value v)) v t e x y
     guard_total (answers (residual r)) t e x y = branches_total r t e x y
@@ -95,7 +95,7 @@ module _ (s : Setting) (calls : Rules.StoredCalls) (callable : FunctionsAnswer c
     and_bool_total (Some true) v t x = right_total (both (literal (bool_literal true))) t x
     and_bool_total (Some false) v t x = (answers_bool false, refl)
 
-    abbrev and_total : (c : Answer) (t : Term) → Found t → (a : Answer) × Rules.AfterAndLeft G c t a
+    abbrev and_total : (c : Answer) (t : Term) → Found t → (a : Answer) × Rules.Then c (Rules.AfterAndLeft G t) a
     and_total (fails e) t x = (fails e, refl)
     and_total (answers (value v)) t x = and_bool_total (bool_of (abstract_value v)) v t x
     and_total (answers (residual r)) t x = kept_total (both r) t x
@@ -106,7 +106,7 @@ module _ (s : Setting) (calls : Rules.StoredCalls) (callable : FunctionsAnswer c
     or_bool_total (Some true) v t x = (answers_bool true, refl)
     or_bool_total (Some false) v t x = right_total (either (literal (bool_literal false))) t x
 
-    abbrev or_total : (c : Answer) (t : Term) → Found t → (a : Answer) × Rules.AfterOrLeft G c t a
+    abbrev or_total : (c : Answer) (t : Term) → Found t → (a : Answer) × Rules.Then c (Rules.AfterOrLeft G t) a
     or_total (fails e) t x = (fails e, refl)
     or_total (answers (value v)) t x = or_bool_total (bool_of (abstract_value v)) v t x
     or_total (answers (residual r)) t x = kept_total (either r) t x
@@ -122,7 +122,7 @@ module _ (s : Setting) (calls : Rules.StoredCalls) (callable : FunctionsAnswer c
     resolves_total deep (Some t) b f = f t refl refl
 
     abbrev left_total : FoundStored → (op : BinaryOperator) (c : Answer) (t : Term) → Found t → (a : Answer) ×
-        Rules.AfterLeft G s op c t a
+        Rules.Then c (Rules.AfterLeft G s op t) a
     left_total st op (fails e) t x = (fails e, refl)
     left_total st op (answers p) t x =
         let k =
@@ -185,7 +185,7 @@ module _ (s : Setting) (calls : Rules.StoredCalls) (callable : FunctionsAnswer c
     path_total deep st (answers (residual r)) k ks = (answers (residual (extended_has r k ks)), refl)
 
     abbrev attribute_total : FoundStored → FoundProjected → (c : Answer) (k : Text) → (a : Answer)
-        × Rules.AtAttribute G s c k a
+        × Rules.Then c (Rules.AtAttribute G s k) a
     attribute_total st pr (fails e) k = (fails e, refl)
     attribute_total st pr (answers (value v)) k =
         resolves_total s.resolution (attribute_residual s.store v k) (attribute_answer s v k)

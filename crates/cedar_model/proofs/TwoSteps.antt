@@ -7,17 +7,17 @@ use Rattle.cedar_model.specs.Values.{abstract_value, expression_of}
 use Rattle.cedar_model.specs.Failures.{Answer, PartialValue, answers_bool, answers, value}
 use Rattle.cedar_model.specs.Policies.{skip}
 use Rattle.cedar_model.specs.Settings
-use Rattle.cedar_model.specs.Examples
+use Rattle.cedar_model.specs.examples.Setting as Examples
 use Rattle.cedar_model.specs.Settings.{known_context, RequestPart, Setting}
 use Rattle.cedar_model.specs.Agreement
 use Rattle.cedar_model.specs.Chains
 use Rattle.cedar_model.specs.Chains.{Mapping, Response}
 use Rattle.cedar_model.specs.Headline
 use Rattle.cedar_model.specs.Progress
-use Rattle.cedar_model.specs.Examples.{some_calls, some_functions, some_extensions}
-use Rattle.cedar_model.specs.ChainExamples.{no_map, an_entity, a_number, empty_store, request_setting, open_request}
-use Rattle.cedar_model.specs.ChainExamples.{two_policies}
-use Rattle.cedar_model.specs.ChainExamples.{two_steps, resource_map, context_map, chain_world}
+use Rattle.cedar_model.specs.examples.Setting.{some_calls, some_functions, some_extensions}
+use Rattle.cedar_model.specs.examples.Chains.{no_map, an_entity, a_number, empty_store, request_setting, open_request}
+use Rattle.cedar_model.specs.examples.Chains.{two_policies}
+use Rattle.cedar_model.specs.examples.Chains.{two_steps, resource_map, context_map, chain_world}
 use Rattle.cedar_model.proofs.Exemplified
 use Rattle.cedar_model.proofs.Configured.{configured_by}
 use Rattle.cedar_model.proofs.Injections.{none_is_not_some}

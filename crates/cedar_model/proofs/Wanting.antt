@@ -16,7 +16,7 @@ use Rattle.cedar_model.specs.Failures.{Answer, answers, answers_bool, fails, lim
 use Rattle.cedar_model.specs.Settings.{Resolution, shallow, deep, Setting}
 use Rattle.cedar_model.specs.Operators
 use Rattle.cedar_model.specs.Rules
-use Rattle.cedar_model.specs.LevelLaws.{FunctionsFindMemory}
+use Rattle.cedar_model.specs.laws.Levels.{FunctionsFindMemory}
 use Rattle.cedar_model.proofs.Resolving as resolving
 use Rattle.cedar_model.proofs.Operands as operands
 use Rattle.cedar_model.proofs.Operands.{Facts, AllAnswer}
@@ -225,7 +225,7 @@ module _ (s : Setting) (calls : Rules.StoredCalls) (finding : FunctionsFindMemor
     found_takes (Some true) v t e a r = ih t a r
     found_takes (Some false) v t e a r = ih e a r
 
-    found_guard : (x : Answer) (t e : Term) (a : Answer) → Found x → Rules.AfterGuard G x t e a → Found a
+    found_guard : (x : Answer) (t e : Term) (a : Answer) → Found x → Rules.Then x (Rules.AfterGuard G t e) a → Found a
     found_guard (fails f) t e a h r = found_by a (fails f) r h
     found_guard (answers (value v)) t e a h r = found_takes (bool_of (abstract_value v)) v t e a r
     found_guard (answers (residual z)) t e a h (x, g, k) =
@@ -242,7 +242,7 @@ module _ (s : Setting) (calls : Rules.StoredCalls) (finding : FunctionsFindMemor
     found_and_bool (Some true) v t a r = found_right _ t a r
     found_and_bool (Some false) v t a r = found_by a _ r tt
 
-    found_and : (x : Answer) (t : Term) (a : Answer) → Found x → Rules.AfterAndLeft G x t a → Found a
+    found_and : (x : Answer) (t : Term) (a : Answer) → Found x → Rules.Then x (Rules.AfterAndLeft G t) a → Found a
     found_and (fails e) t a h r = found_by a (fails e) r h
     found_and (answers (value v)) t a h r = found_and_bool (bool_of (abstract_value v)) v t a r
     found_and (answers (residual z)) t a h r = found_beside_kept (both z) t a r
@@ -252,12 +252,12 @@ module _ (s : Setting) (calls : Rules.StoredCalls) (finding : FunctionsFindMemor
     found_or_bool (Some true) v t a r = found_by a _ r tt
     found_or_bool (Some false) v t a r = found_right _ t a r
 
-    found_or : (x : Answer) (t : Term) (a : Answer) → Found x → Rules.AfterOrLeft G x t a → Found a
+    found_or : (x : Answer) (t : Term) (a : Answer) → Found x → Rules.Then x (Rules.AfterOrLeft G t) a → Found a
     found_or (fails e) t a h r = found_by a (fails e) r h
     found_or (answers (value v)) t a h r = found_or_bool (bool_of (abstract_value v)) v t a r
     found_or (answers (residual z)) t a h r = found_beside_kept (either z) t a r
 
-    found_left : (op : BinaryOperator) (x : Answer) (t : Term) (a : Answer) → Found x → Rules.AfterLeft G s op x t a
+    found_left : (op : BinaryOperator) (x : Answer) (t : Term) (a : Answer) → Found x → Rules.Then x (Rules.AfterLeft G s op t) a
         → Found a
     found_left op (fails e) t a h r = found_by a (fails e) r h
     found_left op (answers p) t a h (y, g, e) =
@@ -300,7 +300,7 @@ module _ (s : Setting) (calls : Rules.StoredCalls) (finding : FunctionsFindMemor
     found_at_fields None r k a j = found_by a _ j tt
     found_at_fields (Some fs) r k a j = found_at_key (Operators.term_at k fs) fs r k a j
 
-    found_attribute : (x : Answer) (k : Text) (a : Answer) → Found x → Rules.AtAttribute G s x k a → Found a
+    found_attribute : (x : Answer) (k : Text) (a : Answer) → Found x → Rules.Then x (Rules.AtAttribute G s k) a → Found a
     found_attribute (fails e) k a h j = found_by a (fails e) j h
     found_attribute (answers (value v)) k a h j =
         resolving.resolved G Found s.resolution (Operators.attribute_residual s.store v k) _ a

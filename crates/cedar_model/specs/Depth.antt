@@ -9,7 +9,7 @@ use Rattle.cedar_model.specs.Settings.{RequestPart, Resolution, shallow, deep, S
 use Rattle.cedar_model.specs.Rules.{StoredCalls, Allows, Exceeds}
 use Rattle.cedar_model.specs.Agreement.{height, EachStored}
 use Rattle.cedar_model.specs.Chains.{Mapping, substituted, substituted_at, at_step}
-use Rattle.cedar_model.specs.LevelLaws.{FunctionsMeetNoLimit}
+use Rattle.cedar_model.specs.laws.Levels.{FunctionsMeetNoLimit}
 use Rattle.cedar_model.specs.Restricted.{IsSound, IsGivenSound}
 
 -- the height of a part, with the map's values in place of their unknowns

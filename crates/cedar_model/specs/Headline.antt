@@ -15,7 +15,7 @@ use Rattle.cedar_model.specs.Responses.{Row, Stand, FitPolicies, AreConditions}
 use Rattle.cedar_model.specs.Chains.{Mapping, Response, Begins, ChainStep, ChainOf}
 use Rattle.cedar_model.specs.Authorizations.{HaveNoLimit}
 use Rattle.cedar_model.specs.Reports.{HaveNoResidual}
-use Rattle.cedar_model.specs.ReportLaws.{ReportsHold, AreDecidedAs}
+use Rattle.cedar_model.specs.laws.Reports.{ReportsHold, AreDecidedAs}
 
 module _ (X : Extensions) (ans : Functions) (w : World) where
   -- a store that a world agrees with, of faithful values, whose residuals fit the world

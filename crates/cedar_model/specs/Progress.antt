@@ -15,7 +15,7 @@ use Rattle.cedar_model.specs.Restricted.{IsSound, IsSoundContext}
 use Rattle.cedar_model.specs.Responses.{Reported, reported_true, reported_false, reported_residual, Row, Stand}
 use Rattle.cedar_model.specs.Chains.{Mapping, Response, StepsTo}
 use Rattle.cedar_model.specs.Reports.{HaveNoResidual}
-use Rattle.cedar_model.specs.ReportLaws.{AreDecidedAs}
+use Rattle.cedar_model.specs.laws.Reports.{AreDecidedAs}
 
 module _ (ans : Functions) (m : Mapping) where
   -- the map names each unknown of the expression, and no function that is called in it can answer one

@@ -19,8 +19,8 @@ use Rattle.cedar_model.specs.Agreement.{height, no_slots}
 use Rattle.cedar_model.specs.Restricted.{IsGivenSound}
 use Rattle.cedar_model.specs.Depth.{IsNoHigher, substituted_height}
 use Rattle.cedar_model.specs.Chains.{with_context, substituted_at}
-use Rattle.cedar_model.specs.Examples.{entity_of_type, user, long, entity, x, example_entity, some_calls, some_extensions}
-use Rattle.cedar_model.specs.Instances.{deeper_set, nesting_extensions}
+use Rattle.cedar_model.specs.examples.Setting.{entity_of_type, user, long, entity, x, example_entity, some_calls, some_extensions}
+use Rattle.cedar_model.specs.examples.Instances.{deeper_set, nesting_extensions}
 
 abbrev u : Term
 u = unknown (codes "u") None

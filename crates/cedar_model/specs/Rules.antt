@@ -39,6 +39,17 @@ StoredCalls = Text → List Represented → Answer → Type 0
 abbrev pub bool_expected : Represented → Answer
 bool_expected v = fails (wrong_type bool_type [] (abstract_value v))
 
+-- ---- an error stays
+
+-- an error is the answer; a value or a residual is gone on with
+abbrev pub Then : Answer → (PartialValue → Answer → Type 0) → Answer → Type 0
+Then (fails e) Next a = a ≡ fails e
+Then (answers p) Next a = Next p a
+
+-- a part is read, and what it answers gone on with
+abbrev pub Reads : MayAnswer → Term → (PartialValue → Answer → Type 0) → Answer → Type 0
+Reads May t Next a = (x : Answer) × May t x × Then x Next a
+
 -- ---- best effort
 
 -- an expression that is kept, or an error that is handed up
@@ -95,10 +106,9 @@ module _ (May : MayAnswer) where
       WalksOn (attribute_residual store v k) (walk_in store (container_of v) (container_expected v) k l ls) l ls
       (λ u. Walks store u l ls) a
 
-  abbrev pub WalksFrom : Store → Answer → Text → List Text → Answer → Type 0
-  WalksFrom store (fails e) k ks a = a ≡ fails e
-  WalksFrom store (answers (value v)) k ks a = Walks store v k ks a
-  WalksFrom store (answers (residual r)) k ks a = a ≡ answers_residual (extended_has r k ks)
+  abbrev pub WalksFrom : Store → Text → List Text → PartialValue → Answer → Type 0
+  WalksFrom store k ks (value v) a = Walks store v k ks a
+  WalksFrom store k ks (residual r) a = a ≡ answers_residual (extended_has r k ks)
 
 -- ---- guards and connectives
 
@@ -125,10 +135,9 @@ module _ (May : MayAnswer) where
       (x : Answer) × May t x × AfterBest (best x t)
       (λ t' b. (y : Answer) × May e y × AfterBest (best y e) (λ e' c. c ≡ answers_residual (if_then_else r t' e')) b) a
 
-  abbrev pub AfterGuard : Answer → Term → Term → Answer → Type 0
-  AfterGuard (fails f) t e a = a ≡ fails f
-  AfterGuard (answers (value v)) t e a = TakesBranch (bool_of (abstract_value v)) v t e a
-  AfterGuard (answers (residual r)) t e a = KeepsBranches r t e a
+  abbrev pub AfterGuard : Term → Term → PartialValue → Answer → Type 0
+  AfterGuard t e (value v) a = TakesBranch (bool_of (abstract_value v)) v t e a
+  AfterGuard t e (residual r) a = KeepsBranches r t e a
 
   -- the right side is read, and joined to this left side
   abbrev pub ReadsRight : (Term → Term) → Term → Answer → Type 0
@@ -144,20 +153,18 @@ module _ (May : MayAnswer) where
   AndLeft (Some true) v t a = ReadsRight (both (literal (bool_literal true))) t a
   AndLeft (Some false) v t a = a ≡ answers_bool false
 
-  abbrev pub AfterAndLeft : Answer → Term → Answer → Type 0
-  AfterAndLeft (fails e) t a = a ≡ fails e
-  AfterAndLeft (answers (value v)) t a = AndLeft (bool_of (abstract_value v)) v t a
-  AfterAndLeft (answers (residual r)) t a = KeepsRight (both r) t a
+  abbrev pub AfterAndLeft : Term → PartialValue → Answer → Type 0
+  AfterAndLeft t (value v) a = AndLeft (bool_of (abstract_value v)) v t a
+  AfterAndLeft t (residual r) a = KeepsRight (both r) t a
 
   abbrev pub OrLeft : Option Bool → Represented → Term → Answer → Type 0
   OrLeft None v t a = a ≡ bool_expected v
   OrLeft (Some true) v t a = a ≡ answers_bool true
   OrLeft (Some false) v t a = ReadsRight (either (literal (bool_literal false))) t a
 
-  abbrev pub AfterOrLeft : Answer → Term → Answer → Type 0
-  AfterOrLeft (fails e) t a = a ≡ fails e
-  AfterOrLeft (answers (value v)) t a = OrLeft (bool_of (abstract_value v)) v t a
-  AfterOrLeft (answers (residual r)) t a = KeepsRight (either r) t a
+  abbrev pub AfterOrLeft : Term → PartialValue → Answer → Type 0
+  AfterOrLeft t (value v) a = OrLeft (bool_of (abstract_value v)) v t a
+  AfterOrLeft t (residual r) a = KeepsRight (either r) t a
 
 -- ---- operators beside residuals
 
@@ -229,10 +236,9 @@ beside_residual store op (value v) (answers (residual r)) = None
 beside_residual store op (residual r) (answers q) = None
 
 module _ (May : MayAnswer) where
-  -- the right side is read unless the left one errs
-  abbrev pub AfterLeft : Setting → BinaryOperator → Answer → Term → Answer → Type 0
-  AfterLeft s op (fails e) t a = a ≡ fails e
-  AfterLeft s op (answers p) t a =
+  -- the right side is read
+  abbrev pub AfterLeft : Setting → BinaryOperator → Term → PartialValue → Answer → Type 0
+  AfterLeft s op t p a =
       (y : Answer) × May t y
       × Resolves May s.resolution (beside_residual s.store op p y) (binary_beside s op p y) a
 
@@ -277,18 +283,17 @@ module _ (May : MayAnswer) where
   AtFields None r k a = a ≡ answers_residual (get_attribute r k)
   AtFields (Some fs) r k a = AtKey (term_at k fs) fs r k a
 
-  abbrev pub AtAttribute : Setting → Answer → Text → Answer → Type 0
-  AtAttribute s (fails e) k a = a ≡ fails e
-  AtAttribute s (answers (value v)) k a =
+  abbrev pub AtAttribute : Setting → Text → PartialValue → Answer → Type 0
+  AtAttribute s k (value v) a =
       Resolves May s.resolution (attribute_residual s.store v k) (attribute_answer s v k) a
-  AtAttribute s (answers (residual r)) k a = AtFields (fields_of_record r) r k a
+  AtAttribute s k (residual r) a = AtFields (fields_of_record r) r k a
 
 -- ---- extended `has`
 
 module _ (May : MayAnswer) where
   abbrev pub AtPath : Resolution → Store → Answer → Text → List Text → Answer → Type 0
   AtPath shallow store x k ks a = a ≡ on_part (λ v. path_answer store v k ks) (λ r. extended_has r k ks) x
-  AtPath deep store x k ks a = WalksFrom May store x k ks a
+  AtPath deep store x k ks a = Then x (WalksFrom May store k ks) a
 
 -- ---- parts in order: all their answers, or the first error
 
@@ -393,14 +398,14 @@ Rule s Calls May (literal l) a = a ≡ answers_value (plain_represented l)
 Rule s Calls May (variable v) a = a ≡ answers (variable_part s.request v)
 Rule s Calls May (slot i) a = a ≡ slot_answer i (s.slots i)
 Rule s Calls May (unknown n t) a = a ≡ unknown_answer s.map n t
-Rule s Calls May (if_then_else c t e) a = (x : Answer) × May c x × AfterGuard May x t e a
-Rule s Calls May (both t u) a = (x : Answer) × May t x × AfterAndLeft May x u a
-Rule s Calls May (either t u) a = (x : Answer) × May t x × AfterOrLeft May x u a
+Rule s Calls May (if_then_else c t e) a = Reads May c (AfterGuard May t e) a
+Rule s Calls May (both t u) a = Reads May t (AfterAndLeft May u) a
+Rule s Calls May (either t u) a = Reads May t (AfterOrLeft May u) a
 Rule s Calls May (unary op t) a = (x : Answer) × May t x × (a ≡ on_part (unary_answer op) (unary op) x)
-Rule s Calls May (binary op t u) a = (x : Answer) × May t x × AfterLeft May s op x u a
+Rule s Calls May (binary op t u) a = Reads May t (AfterLeft May s op u) a
 Rule s Calls May (call f ts) a =
     (r : Result (List PartialValue) Failure) × Parts May ts r × AfterArguments Calls s.extensions.arity f r a
-Rule s Calls May (get_attribute t k) a = (x : Answer) × May t x × AtAttribute May s x k a
+Rule s Calls May (get_attribute t k) a = Reads May t (AtAttribute May s k) a
 Rule s Calls May (has_attribute t k) a = (x : Answer) × May t x × (a ≡ has_part s k x)
 Rule s Calls May (extended_has t k ks) a =
     (x : Answer) × May t x × AtPath May s.resolution s.store x k ks a

@@ -1,10 +1,10 @@
 //! Authorization where nothing is unknown. Each function is a law, and does nothing.
 ghost use Rattle.cedar_model.specs.World.{World, Extensions, Functions};
-ghost use Rattle.cedar_model.specs.AuthorizationLaws.{KnownAnswersAreExact, KnownConditionsAreExact};
-ghost use Rattle.cedar_model.specs.AuthorizationLaws.{KnownResponsesAreExact, LowConditionsMeetNoLimit};
-ghost use Rattle.cedar_model.specs.AuthorizationLaws.{OwnWorldCompletes, OrderChangesNoResponse, AddedForbidKeepsDeny};
-ghost use Rattle.cedar_model.specs.AuthorizationLaws.{AddedPermitKeepsAllow, ErringChangesNoResponse};
-ghost use Rattle.cedar_model.specs.AuthorizationLaws.{ErringPermitChangesNoResponse, ErringForbidDecidesAlone};
+ghost use Rattle.cedar_model.specs.laws.Authorizations.{KnownAnswersAreExact, KnownConditionsAreExact};
+ghost use Rattle.cedar_model.specs.laws.Authorizations.{KnownResponsesAreExact, LowConditionsMeetNoLimit};
+ghost use Rattle.cedar_model.specs.laws.Authorizations.{OwnWorldCompletes, OrderChangesNoResponse, AddedForbidKeepsDeny};
+ghost use Rattle.cedar_model.specs.laws.Authorizations.{AddedPermitKeepsAllow, ErringChangesNoResponse};
+ghost use Rattle.cedar_model.specs.laws.Authorizations.{ErringPermitChangesNoResponse, ErringForbidDecidesAlone};
 
 use crate::levels::AnyFunctions;
 

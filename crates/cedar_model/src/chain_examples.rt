@@ -1,17 +1,17 @@
 //! Worked examples: what responses say, which steps are refused, and chains. Each function is a set of examples, and
 //! does nothing.
-ghost use Rattle.cedar_model.specs.ChainExamples.{OtherModeIsRefused, ErringForbid, StrictChain};
-ghost use Rattle.cedar_model.specs.ChainExamples.{StrictChainIsCompleted};
-ghost use Rattle.cedar_model.specs.ChainExamples.{ForbidDecides, AllAreCarried, CarriedByReport, ForbidErrorsFirst};
-ghost use Rattle.cedar_model.specs.ChainExamples.{OtherReaders, GetFindsThePermit, ResidualForbidHolds};
-ghost use Rattle.cedar_model.specs.ChainExamples.{ResidualPermitMay, EarlyDeny, KnownEntryIsRefused};
-ghost use Rattle.cedar_model.specs.ChainExamples.{NoEntityIsRefused, OtherTypeIsRefused, UnknownBecomesKnown};
-ghost use Rattle.cedar_model.specs.ChainExamples.{ContextIsARecord, ContextBesideIsRefused, RepeatedIdIsRefused};
-ghost use Rattle.cedar_model.specs.ChainExamples.{ContextErrorIsRefused, ContextLimitIsRefused};
-ghost use Rattle.cedar_model.specs.ChainExamples.{ContextIsReadUnderTheOldRequest, TwoSteps};
-ghost use Rattle.cedar_model.specs.ChainExamples.{TwoStepsAreCompleted, EndsAtTheLimit, RefusalEndsAChain};
-ghost use Rattle.cedar_model.specs.StoredChains.{StepsRead, DeepStepIsCompleted, StepsDiffer};
-ghost use Rattle.cedar_model.specs.StoredChains.{DifferingStepsAreCompleted, DeepStepFinishes};
+ghost use Rattle.cedar_model.specs.examples.Chains.{OtherModeIsRefused, ErringForbid, StrictChain};
+ghost use Rattle.cedar_model.specs.examples.Chains.{StrictChainIsCompleted};
+ghost use Rattle.cedar_model.specs.examples.Chains.{ForbidDecides, AllAreCarried, CarriedByReport, ForbidErrorsFirst};
+ghost use Rattle.cedar_model.specs.examples.Chains.{OtherReaders, GetFindsThePermit, ResidualForbidHolds};
+ghost use Rattle.cedar_model.specs.examples.Chains.{ResidualPermitMay, EarlyDeny, KnownEntryIsRefused};
+ghost use Rattle.cedar_model.specs.examples.Chains.{NoEntityIsRefused, OtherTypeIsRefused, UnknownBecomesKnown};
+ghost use Rattle.cedar_model.specs.examples.Chains.{ContextIsARecord, ContextBesideIsRefused, RepeatedIdIsRefused};
+ghost use Rattle.cedar_model.specs.examples.Chains.{ContextErrorIsRefused, ContextLimitIsRefused};
+ghost use Rattle.cedar_model.specs.examples.Chains.{ContextIsReadUnderTheOldRequest, TwoSteps};
+ghost use Rattle.cedar_model.specs.examples.Chains.{TwoStepsAreCompleted, EndsAtTheLimit, RefusalEndsAChain};
+ghost use Rattle.cedar_model.specs.examples.StoredChains.{StepsRead, DeepStepIsCompleted, StepsDiffer};
+ghost use Rattle.cedar_model.specs.examples.StoredChains.{DifferingStepsAreCompleted, DeepStepFinishes};
 
 /// Examples: what responses say.
 pub fn responses_say()

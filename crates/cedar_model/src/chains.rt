@@ -1,6 +1,6 @@
 //! Chains of steps. Each function is a law, and does nothing.
-ghost use Rattle.cedar_model.specs.ChainLaws.{RefusalIsOne, LimitsAreSeen, NoEarlierLimit, NothingIsTakenBack};
-ghost use Rattle.cedar_model.specs.ChainLaws.{ChainsBegin, StepsAnswer, ChainsAnswer};
+ghost use Rattle.cedar_model.specs.laws.Chains.{RefusalIsOne, LimitsAreSeen, NoEarlierLimit, NothingIsTakenBack};
+ghost use Rattle.cedar_model.specs.laws.Chains.{ChainsBegin, StepsAnswer, ChainsAnswer};
 ghost use Rattle.cedar_model.specs.Headline.{ChainsStand};
 
 use crate::levels::AnyFunctions;

@@ -1,30 +1,30 @@
 //! Worked examples: what expressions mean, and what the residual rules allow. Each function is a set of examples,
 //! and does nothing.
-ghost use Rattle.cedar_model.specs.Meanings.{MeansOverflowAbove, MeansOverflowBelow, MeansLeastLong};
-ghost use Rattle.cedar_model.specs.Meanings.{MeansFirstErrorByKey, MeansLeftErrorFirst, MeansOperandsBeforeTypes};
-ghost use Rattle.cedar_model.specs.Meanings.{MeansMissingHas, MeansMissingAttributeOf, MeansAttribute};
-ghost use Rattle.cedar_model.specs.Meanings.{MeansAttributeMissing, MeansKeyMissing, MeansTagMissing, MeansInAncestor};
-ghost use Rattle.cedar_model.specs.Meanings.{MeansInItself, MeansInMixedSet, MeansPathStops, MeansPathOfLong};
-ghost use Rattle.cedar_model.specs.Meanings.{MeansSlotNotReached, MeansSlotUnlinked, MeansUnknown, MeansSetOnce};
-ghost use Rattle.cedar_model.specs.Meanings.{MeansArgumentErrsFirst, MeansNoSuchFunction, MeansTooFewArguments};
-ghost use Rattle.cedar_model.specs.Meanings.{MeansFunction, MeansIs};
-ghost use Rattle.cedar_model.specs.Needs.{NotsNeedThree, BestEffortHandsUp, ProjectionNeedsThree, ErringAreSkipped};
-ghost use Rattle.cedar_model.specs.Needs.{ForbidDenies, NothingDenies};
-ghost use Rattle.cedar_model.specs.Rows.{LikeMatches, LikeFails, LikeOfLong, OverflowAbove, OverflowBelow};
-ghost use Rattle.cedar_model.specs.Rows.{FirstErrorByKey, LeftErrorFirst, LessBesideLong, LessOfTexts};
-ghost use Rattle.cedar_model.specs.Rows.{ContainsAllOfLong, SetOnce, EmptySet, KnownPrincipal, SlotNotReached};
-ghost use Rattle.cedar_model.specs.Rows.{SlotUnlinked, MissingAttributeOf, MissingHas, AttributeMissing, TagMissing};
-ghost use Rattle.cedar_model.specs.Rows.{TagAsStored, HasTag, AttributeThroughMap, AttributeAsStored, InAncestor};
-ghost use Rattle.cedar_model.specs.Rows.{InMissingConcrete, InItself, InMissingPartial, InAnyRight, InALong};
-ghost use Rattle.cedar_model.specs.Rows.{InMixedSet, InFromALong, PathMetByResidual, PathLastIsPresence};
-ghost use Rattle.cedar_model.specs.Rows.{PathMissingPartial, PathStops, PathOfLong, MappedWithType};
-ghost use Rattle.cedar_model.specs.Rows.{MappedWithOtherType, KeptBesideTrue, FalseBesideUnknown, OrKeeps};
-ghost use Rattle.cedar_model.specs.Rows.{BestEffortKeeps, BestEffortSimplifies, GuardKeeps, ValueBesideResidual};
-ghost use Rattle.cedar_model.specs.Rows.{RightErrorShows, ApartByAnnotation, KeptByAnnotation, KeptWithoutAnnotation};
-ghost use Rattle.cedar_model.specs.Rows.{UnknownsApart, IsByAnnotation, IsTestKept, Projected, ProjectedThroughMap};
-ghost use Rattle.cedar_model.specs.Rows.{NotProjected, KeyNotThere, HasInProjectable, HasKept, SetWithUnknown};
-ghost use Rattle.cedar_model.specs.Rows.{LikeKept, ArgumentErrsFirst, NoSuchFunction, UnknownArgument};
-ghost use Rattle.cedar_model.specs.Rows.{TooManyArguments, TooFewArguments, FunctionAnswers};
+ghost use Rattle.cedar_model.specs.examples.Meanings.{MeansOverflowAbove, MeansOverflowBelow, MeansLeastLong};
+ghost use Rattle.cedar_model.specs.examples.Meanings.{MeansFirstErrorByKey, MeansLeftErrorFirst, MeansOperandsBeforeTypes};
+ghost use Rattle.cedar_model.specs.examples.Meanings.{MeansMissingHas, MeansMissingAttributeOf, MeansAttribute};
+ghost use Rattle.cedar_model.specs.examples.Meanings.{MeansAttributeMissing, MeansKeyMissing, MeansTagMissing, MeansInAncestor};
+ghost use Rattle.cedar_model.specs.examples.Meanings.{MeansInItself, MeansInMixedSet, MeansPathStops, MeansPathOfLong};
+ghost use Rattle.cedar_model.specs.examples.Meanings.{MeansSlotNotReached, MeansSlotUnlinked, MeansUnknown, MeansSetOnce};
+ghost use Rattle.cedar_model.specs.examples.Meanings.{MeansArgumentErrsFirst, MeansNoSuchFunction, MeansTooFewArguments};
+ghost use Rattle.cedar_model.specs.examples.Meanings.{MeansFunction, MeansIs};
+ghost use Rattle.cedar_model.specs.examples.Needs.{NotsNeedThree, BestEffortHandsUp, ProjectionNeedsThree, ErringAreSkipped};
+ghost use Rattle.cedar_model.specs.examples.Needs.{ForbidDenies, NothingDenies};
+ghost use Rattle.cedar_model.specs.examples.Answers.{LikeMatches, LikeFails, LikeOfLong, OverflowAbove, OverflowBelow};
+ghost use Rattle.cedar_model.specs.examples.Answers.{FirstErrorByKey, LeftErrorFirst, LessBesideLong, LessOfTexts};
+ghost use Rattle.cedar_model.specs.examples.Answers.{ContainsAllOfLong, SetOnce, EmptySet, KnownPrincipal, SlotNotReached};
+ghost use Rattle.cedar_model.specs.examples.Answers.{SlotUnlinked, MissingAttributeOf, MissingHas, AttributeMissing, TagMissing};
+ghost use Rattle.cedar_model.specs.examples.Answers.{TagAsStored, HasTag, AttributeThroughMap, AttributeAsStored, InAncestor};
+ghost use Rattle.cedar_model.specs.examples.Answers.{InMissingConcrete, InItself, InMissingPartial, InAnyRight, InALong};
+ghost use Rattle.cedar_model.specs.examples.Answers.{InMixedSet, InFromALong, PathMetByResidual, PathLastIsPresence};
+ghost use Rattle.cedar_model.specs.examples.Answers.{PathMissingPartial, PathStops, PathOfLong, MappedWithType};
+ghost use Rattle.cedar_model.specs.examples.Answers.{MappedWithOtherType, KeptBesideTrue, FalseBesideUnknown, OrKeeps};
+ghost use Rattle.cedar_model.specs.examples.Answers.{BestEffortKeeps, BestEffortSimplifies, GuardKeeps, ValueBesideResidual};
+ghost use Rattle.cedar_model.specs.examples.Answers.{RightErrorShows, ApartByAnnotation, KeptByAnnotation, KeptWithoutAnnotation};
+ghost use Rattle.cedar_model.specs.examples.Answers.{UnknownsApart, IsByAnnotation, IsTestKept, Projected, ProjectedThroughMap};
+ghost use Rattle.cedar_model.specs.examples.Answers.{NotProjected, KeyNotThere, HasInProjectable, HasKept, SetWithUnknown};
+ghost use Rattle.cedar_model.specs.examples.Answers.{LikeKept, ArgumentErrsFirst, NoSuchFunction, UnknownArgument};
+ghost use Rattle.cedar_model.specs.examples.Answers.{TooManyArguments, TooFewArguments, FunctionAnswers};
 
 /// Examples: values and operators.
 pub fn operators_answer()

@@ -1,7 +1,7 @@
 //! That the premises of the laws can be met. Each function is a set of instances, and does nothing.
-ghost use Rattle.cedar_model.specs.Instances.{UnknownsAreCompleted, FunctionsCanAnswer, NoFunctionMustAnswer};
-ghost use Rattle.cedar_model.specs.Instances.{WaitingIsSound, ProjectedValueNeedsFour, VariablesInContextsNeedMore};
-ghost use Rattle.cedar_model.specs.Instances.{ContextGrows, VariableIsDisallowed, FirstKeyIsDisallowed};
+ghost use Rattle.cedar_model.specs.examples.Instances.{UnknownsAreCompleted, FunctionsCanAnswer, NoFunctionMustAnswer};
+ghost use Rattle.cedar_model.specs.examples.Instances.{WaitingIsSound, ProjectedValueNeedsFour, VariablesInContextsNeedMore};
+ghost use Rattle.cedar_model.specs.examples.Instances.{ContextGrows, VariableIsDisallowed, FirstKeyIsDisallowed};
 
 /// A world completes a request with an unknown principal and a residual context, and a store, concrete or
 /// partial, with an unknown attribute; and there are functions that answer a value, an error or an unknown.

@@ -3,10 +3,10 @@ ghost use Rattle.std.specs.Prelude.{List};
 ghost use Rattle.cedar_model.specs.Terms.{Text};
 ghost use Rattle.cedar_model.specs.Values.{Represented};
 ghost use Rattle.cedar_model.specs.Failures.{Answer};
-ghost use Rattle.cedar_model.specs.LevelLaws.{MoreLevelsKeepAnswers, LimitIsAlone, AllowedAnswersAreAlike};
-ghost use Rattle.cedar_model.specs.LevelLaws.{AnswersTakeMoreLevels, AllowedIsByTheRules, LayersAreLevels};
-ghost use Rattle.cedar_model.specs.LevelLaws.{LevelsHaveAnswers, ExpressionsHaveAnswers, NeedIsThreshold};
-ghost use Rattle.cedar_model.specs.LevelLaws.{AgreedFunctionsAreFunctional, AnswersFindMemory};
+ghost use Rattle.cedar_model.specs.laws.Levels.{MoreLevelsKeepAnswers, LimitIsAlone, AllowedAnswersAreAlike};
+ghost use Rattle.cedar_model.specs.laws.Levels.{AnswersTakeMoreLevels, AllowedIsByTheRules, LayersAreLevels};
+ghost use Rattle.cedar_model.specs.laws.Levels.{LevelsHaveAnswers, ExpressionsHaveAnswers, NeedIsThreshold};
+ghost use Rattle.cedar_model.specs.laws.Levels.{AgreedFunctionsAreFunctional, AnswersFindMemory};
 
 /// Any stored functions: what they may answer to arguments. The laws hold for each type that has this.
 pub trait AnyFunctions {

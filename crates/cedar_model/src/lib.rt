@@ -9,7 +9,8 @@
 //!   complete it.
 //! - `specs/Policies`, `Reports`, `Responses`, `Chains`, `Refusals`, `Headline`: policies, responses, steps and what
 //!   stands.
-//! - `specs/*Laws`, `Depth`, `Progress`, `Authorizations`: the statements of laws; `specs/lemmas` what proofs share.
+//! - `specs/laws`, `Depth`, `Progress`, `Authorizations`: the statements of laws; `specs/examples`: worked examples, in
+//!   one setting, and instances; `specs/lemmas`: what proofs share.
 //! - `src/meaning`, `levels`, `depth`, `resolutions`, `restricted`, `values`, `kinds`, `printing`: laws on
 //!   expressions and values.
 //! - `src/policies`, `authorizations`, `responses`, `reports`, `chains`, `progress`: laws on policies, runs and

@@ -1,6 +1,6 @@
 //! The residual rules and the meaning. Each function is a law, and does nothing.
-ghost use Rattle.cedar_model.specs.MeaningLaws.{AllowedIsMeant, NeedIsAtMostHeight, OwnWorldAgrees, ResidualsAreSound};
-ghost use Rattle.cedar_model.specs.MeaningLaws.{WrittenValuesMean, ExtendedHasIsConjunction};
+ghost use Rattle.cedar_model.specs.laws.Soundness.{AllowedIsMeant, NeedIsAtMostHeight, OwnWorldAgrees, ResidualsAreSound};
+ghost use Rattle.cedar_model.specs.laws.Soundness.{WrittenValuesMean, ExtendedHasIsConjunction};
 
 use crate::levels::AnyFunctions;
 

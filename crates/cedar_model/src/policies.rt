@@ -1,7 +1,7 @@
 //! Decision and reasons. Each function is a law, and does nothing.
-ghost use Rattle.cedar_model.specs.PolicyLaws.{OrderChangesNothing, ForbidsKeepDeny, PermitsKeepAllow};
-ghost use Rattle.cedar_model.specs.PolicyLaws.{ErringChangesNothing, ErringPermitChangesNothing};
-ghost use Rattle.cedar_model.specs.PolicyLaws.{ErringForbidDecidesAlone, SkippingCountsAsItIs};
+ghost use Rattle.cedar_model.specs.laws.Policies.{OrderChangesNothing, ForbidsKeepDeny, PermitsKeepAllow};
+ghost use Rattle.cedar_model.specs.laws.Policies.{ErringChangesNothing, ErringPermitChangesNothing};
+ghost use Rattle.cedar_model.specs.laws.Policies.{ErringForbidDecidesAlone, SkippingCountsAsItIs};
 
 /// Four facts of decision and reasons, in each mode of handling errors: the order of policies changes nothing; an added
 /// forbid never turns Deny into Allow; an added permit never turns Allow into Deny; and where errors are skipped,

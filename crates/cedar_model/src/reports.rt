@@ -1,6 +1,6 @@
 //! What a response says. Each function is a law, and does nothing.
-ghost use Rattle.cedar_model.specs.ReportLaws.{BoundsHold, GivenIsConcrete, ConcreteIsDefined, ConcreteDecidesRows};
-ghost use Rattle.cedar_model.specs.ReportLaws.{RunsWithoutResidualsAreResponses, EachIsCarriedOnce};
+ghost use Rattle.cedar_model.specs.laws.Reports.{BoundsHold, GivenIsConcrete, ConcreteIsDefined, ConcreteDecidesRows};
+ghost use Rattle.cedar_model.specs.laws.Reports.{RunsWithoutResidualsAreResponses, EachIsCarriedOnce};
 
 use crate::levels::AnyFunctions;
 

@@ -1,5 +1,5 @@
 //! Stored residuals. Each function is a law or a set of examples, and does nothing.
-ghost use Rattle.cedar_model.specs.ResolutionLaws.{ResolutionsAgree};
+ghost use Rattle.cedar_model.specs.laws.Resolutions.{ResolutionsAgree};
 ghost use Rattle.cedar_model.specs.Resolutions.{AttributeResolves, AttributeStays, AttributeErrs, TagResolves};
 ghost use Rattle.cedar_model.specs.Resolutions.{PresenceReadsNone, PathWalksOn, PathKeeps, PathErrs, LastIsPresence};
 ghost use Rattle.cedar_model.specs.Resolutions.{MissingStays, StoredNeedThree, ShallowNeedsTwo, UnknownResolves};

@@ -1,5 +1,5 @@
 //! Runs, and steps from one response to the next. Each function is a law, and does nothing.
-ghost use Rattle.cedar_model.specs.ResponseLaws.{RunsStand, StepsKeepCompletions, StepsKeepWhatStands};
+ghost use Rattle.cedar_model.specs.laws.Responses.{RunsStand, StepsKeepCompletions, StepsKeepWhatStands};
 
 use crate::levels::AnyFunctions;
 

@@ -1,7 +1,7 @@
 //! Restricted expressions, and unknowns in residuals. Each function is a law, and does nothing.
-ghost use Rattle.cedar_model.specs.RestrictedLaws.{RestrictedReadsNothing, RestrictedStays};
-ghost use Rattle.cedar_model.specs.RestrictedLaws.{AnsweredResidualsHoldUnknowns, NoneIsDisallowed};
-ghost use Rattle.cedar_model.specs.RestrictedLaws.{DisallowedHasItsFeature};
+ghost use Rattle.cedar_model.specs.laws.Restricted.{RestrictedReadsNothing, RestrictedStays};
+ghost use Rattle.cedar_model.specs.laws.Restricted.{AnsweredResidualsHoldUnknowns, NoneIsDisallowed};
+ghost use Rattle.cedar_model.specs.laws.Restricted.{DisallowedHasItsFeature};
 
 use crate::levels::AnyFunctions;
 

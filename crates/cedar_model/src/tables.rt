@@ -1,18 +1,18 @@
 //! Worked examples for the tables of type errors, of residuals and of operators' errors. Each function is a set of
 //! examples, and does nothing.
-ghost use Rattle.cedar_model.specs.Tables.{GuardExpectsBool, NotExpectsBool, AndLeftExpectsBool, AndRightExpectsBool};
-ghost use Rattle.cedar_model.specs.Tables.{OrLeftExpectsBool, OrRightExpectsBool, NegExpectsLong, AddExpectsLongLeft};
-ghost use Rattle.cedar_model.specs.Tables.{SubExpectsLongRight, MulExpectsLongLeft, LessEqBesideLong};
-ghost use Rattle.cedar_model.specs.Tables.{ExtensionBesideLong, OverloadedLeft, OverloadedRight, OtherExtensions};
-ghost use Rattle.cedar_model.specs.Tables.{ContainsExpectsSet, ContainsAnyLeftFirst, ContainsAnyRight};
-ghost use Rattle.cedar_model.specs.Tables.{IsEmptyExpectsSet, GetTagExpectsEntity, HasTagExpectsEntity};
-ghost use Rattle.cedar_model.specs.Tables.{IsExpectsEntity, GetTagExpectsText, HasTagExpectsText, AttributeOfLong};
-ghost use Rattle.cedar_model.specs.Tables.{HasOfLong, PolicyExpectsBool, UnaryKept, FalseOrKept, ResidualBesideValue};
-ghost use Rattle.cedar_model.specs.Tables.{ResidualBesideResidual, TagOfMissingPartial, HasTagOfMissingPartial};
-ghost use Rattle.cedar_model.specs.Tables.{AttributeOfMissingPartial, HasOfMissingPartial, AttributeOfResidual};
-ghost use Rattle.cedar_model.specs.Tables.{KeyNotInOtherRecord, PathOfResidual, RecordWithUnknown, FunctionAsks};
-ghost use Rattle.cedar_model.specs.Tables.{TagOfMissing, FiveNamesShown, OtherKindShown, KeyMissing, SubOverflows};
-ghost use Rattle.cedar_model.specs.Tables.{MulOverflows, FunctionFails, ExtensionsCompared, ExtensionsComparedBack};
+ghost use Rattle.cedar_model.specs.examples.Tables.{GuardExpectsBool, NotExpectsBool, AndLeftExpectsBool, AndRightExpectsBool};
+ghost use Rattle.cedar_model.specs.examples.Tables.{OrLeftExpectsBool, OrRightExpectsBool, NegExpectsLong, AddExpectsLongLeft};
+ghost use Rattle.cedar_model.specs.examples.Tables.{SubExpectsLongRight, MulExpectsLongLeft, LessEqBesideLong};
+ghost use Rattle.cedar_model.specs.examples.Tables.{ExtensionBesideLong, OverloadedLeft, OverloadedRight, OtherExtensions};
+ghost use Rattle.cedar_model.specs.examples.Tables.{ContainsExpectsSet, ContainsAnyLeftFirst, ContainsAnyRight};
+ghost use Rattle.cedar_model.specs.examples.Tables.{IsEmptyExpectsSet, GetTagExpectsEntity, HasTagExpectsEntity};
+ghost use Rattle.cedar_model.specs.examples.Tables.{IsExpectsEntity, GetTagExpectsText, HasTagExpectsText, AttributeOfLong};
+ghost use Rattle.cedar_model.specs.examples.Tables.{HasOfLong, PolicyExpectsBool, UnaryKept, FalseOrKept, ResidualBesideValue};
+ghost use Rattle.cedar_model.specs.examples.Tables.{ResidualBesideResidual, TagOfMissingPartial, HasTagOfMissingPartial};
+ghost use Rattle.cedar_model.specs.examples.Tables.{AttributeOfMissingPartial, HasOfMissingPartial, AttributeOfResidual};
+ghost use Rattle.cedar_model.specs.examples.Tables.{KeyNotInOtherRecord, PathOfResidual, RecordWithUnknown, FunctionAsks};
+ghost use Rattle.cedar_model.specs.examples.Tables.{TagOfMissing, FiveNamesShown, OtherKindShown, KeyMissing, SubOverflows};
+ghost use Rattle.cedar_model.specs.examples.Tables.{MulOverflows, FunctionFails, ExtensionsCompared, ExtensionsComparedBack};
 
 /// Examples: the table of type errors.
 pub fn type_errors_are_shown()

@@ -1,10 +1,10 @@
 //! The order of values, their keys and canonical sets. Each function is a law, and does nothing.
-ghost use Rattle.cedar_model.specs.ValueLaws.{ValuesAreOrdered, EqualIsEquality, TestIsEquality, TestIsEquivalence};
-ghost use Rattle.cedar_model.specs.ValueLaws.{KeysComeBack, BoolsAreOrdered, LongsAreOrdered, TextsAreOrdered};
-ghost use Rattle.cedar_model.specs.ValueLaws.{EntitiesAreOrdered, ExtensionValuesAreOrdered, CanonicalSetsAreInOrder};
-ghost use Rattle.cedar_model.specs.ValueLaws.{CanonicalSetsKeepTheFirst, CanonicalSetsHaveTheMembers};
-ghost use Rattle.cedar_model.specs.ValueLaws.{OrderedListsAreOne, OrderedMembersAreOne, OrderedListsAreCanonical};
-ghost use Rattle.cedar_model.specs.ValueLaws.{CanonicalSetsAreAbstractSets, ValuesAreLargerThanParts};
+ghost use Rattle.cedar_model.specs.laws.Values.{ValuesAreOrdered, EqualIsEquality, TestIsEquality, TestIsEquivalence};
+ghost use Rattle.cedar_model.specs.laws.Values.{KeysComeBack, BoolsAreOrdered, LongsAreOrdered, TextsAreOrdered};
+ghost use Rattle.cedar_model.specs.laws.Values.{EntitiesAreOrdered, ExtensionValuesAreOrdered, CanonicalSetsAreInOrder};
+ghost use Rattle.cedar_model.specs.laws.Values.{CanonicalSetsKeepTheFirst, CanonicalSetsHaveTheMembers};
+ghost use Rattle.cedar_model.specs.laws.Values.{OrderedListsAreOne, OrderedMembersAreOne, OrderedListsAreCanonical};
+ghost use Rattle.cedar_model.specs.laws.Values.{CanonicalSetsAreAbstractSets, ValuesAreLargerThanParts};
 
 /// The order of values is total, and what it calls equal is equal.
 pub fn values_are_ordered()

@@ -7,7 +7,7 @@ use Rattle.cedar_model.specs.Settings.{Setting}
 use Rattle.cedar_model.specs.Shapes.{is_projectable}
 use Rattle.cedar_model.specs.Operators.{term_at, attribute_answer, attribute_residual}
 use Rattle.cedar_model.specs.Rules as Rules
-use Rattle.cedar_model.specs.Rules.{MayAnswer, Resolves, AtKey, AtFields, AtAttribute, fields_of_record}
+use Rattle.cedar_model.specs.Rules.{MayAnswer, Resolves, AtKey, AtFields, AtAttribute, fields_of_record, Then}
 use Rattle.cedar_operators.specs.Parts.{AnswersProjection, projected, projection_of, projection_at, projection}
 
 module _ (May : MayAnswer) where
@@ -34,7 +34,7 @@ module _ (May : MayAnswer) where
   pub at_attribute : (s : Setting) (p : PartialValue) (k : Text) (a : Answer)
       → ((v : Represented) → p ≡ value v → a ≡ attribute_answer s v k
       → Resolves May s.resolution (attribute_residual s.store v k) (attribute_answer s v k) a)
-      → AnswersProjection May (projection s p k) a → AtAttribute May s (answers p) k a
+      → AnswersProjection May (projection s p k) a → Then (answers p) (AtAttribute May s k) a
   unfolding projection
   at_attribute s (value v) k a stored is = stored v refl is
   at_attribute s (residual r) k a stored is = at_fields (fields_of_record r) r k a is

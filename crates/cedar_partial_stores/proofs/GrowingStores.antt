@@ -9,12 +9,12 @@ use Rattle.cedar_model.specs.Failures.{PartialValue}
 use Rattle.cedar_model.specs.Policies.{skip}
 use Rattle.cedar_model.specs.Settings.{StoredEntity, Store, Setting, shallow, found, found_in, printed_entity, part_at}
 use Rattle.cedar_model.specs.Agreement
-use Rattle.cedar_model.specs.Instances.{value_of_unknown}
+use Rattle.cedar_model.specs.examples.Instances.{value_of_unknown}
 use Rattle.cedar_model.specs.Chains
 use Rattle.cedar_model.specs.Chains.{Mapping, Response}
 use Rattle.cedar_model.specs.Headline
-use Rattle.cedar_model.specs.Examples.{some_functions, some_extensions}
-use Rattle.cedar_model.specs.ChainExamples.{an_entity, empty_context}
+use Rattle.cedar_model.specs.examples.Setting.{some_functions, some_extensions}
+use Rattle.cedar_model.specs.examples.Chains.{an_entity, empty_context}
 use Rattle.cedar_model.proofs.Exemplified
 use Rattle.cedar_model.proofs.Printed.{come_back}
 use Rattle.cedar_model.proofs.TwoSteps.{functional, faithful}

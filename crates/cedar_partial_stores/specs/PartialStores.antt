@@ -13,9 +13,9 @@ use Rattle.cedar_model.specs.Chains.{Mapping, Response, Begins, ChainStep, Chain
 use Rattle.cedar_model.specs.Reports.{ids, given_decision, must_determine, nontrivial_residual_ids, HaveNoResidual}
 use Rattle.cedar_model.specs.Printing.{read_entity}
 use Rattle.cedar_model.specs.Headline.{Premises}
-use Rattle.cedar_model.specs.Examples.{entity_of_type, user, entity, some_extensions, some_functions}
-use Rattle.cedar_model.specs.Instances.{value_of_unknown}
-use Rattle.cedar_model.specs.ChainExamples.{policy, map_of, an_entity, requested, empty_context, configured_in}
+use Rattle.cedar_model.specs.examples.Setting.{entity_of_type, user, entity, some_extensions, some_functions}
+use Rattle.cedar_model.specs.examples.Instances.{value_of_unknown}
+use Rattle.cedar_model.specs.examples.Chains.{policy, map_of, an_entity, requested, empty_context, configured_in}
 
 -- ---- who is in what: Alice in a team, and the team in an organization
 

@@ -16,8 +16,8 @@ use Rattle.cedar_model.specs.Settings.{Setting, known_context, context_value}
 use Rattle.cedar_model.specs.Rules.{StoredCalls, MayAnswer, Runs, Exceeds, Meets}
 use Rattle.cedar_model.specs.Agreement.{height}
 use Rattle.cedar_model.specs.Alike.{AreFunctional}
-use Rattle.cedar_model.specs.LevelLaws.{FunctionsMeetNoLimit}
-use Rattle.cedar_model.specs.RestrictedLaws.{AnswersSound}
+use Rattle.cedar_model.specs.laws.Levels.{FunctionsMeetNoLimit}
+use Rattle.cedar_model.specs.laws.Restricted.{AnswersSound}
 use Rattle.cedar_model.specs.Chains.{Mapping, substituted, substituted_at}
 use Rattle.cedar_model.proofs.Determined.{limit_alone}
 use Rattle.cedar_model.proofs.Needs.{restricted_need}

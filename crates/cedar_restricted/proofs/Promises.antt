@@ -12,9 +12,9 @@ use Rattle.cedar_model.specs.Settings.{Setting, known_entry, known_context, shal
 use Rattle.cedar_model.specs.Shapes.{is_restricted}
 use Rattle.cedar_model.specs.Rules.{StoredCalls, Runs, Exceeds, Meets}
 use Rattle.cedar_model.specs.World as world
-use Rattle.cedar_model.specs.LevelLaws.{FunctionsMeetNoLimit}
+use Rattle.cedar_model.specs.laws.Levels.{FunctionsMeetNoLimit}
 use Rattle.cedar_model.specs.Restricted.{IsSoundPart}
-use Rattle.cedar_model.specs.RestrictedLaws.{AnswersSound, HoldsUnknown}
+use Rattle.cedar_model.specs.laws.Restricted.{AnswersSound, HoldsUnknown}
 use Rattle.cedar_model.proofs.Determined.{limit_alone}
 use Rattle.cedar_model.proofs.Exactly.{answer_exact}
 use Rattle.cedar_model.proofs.Needs.{restricted_need}

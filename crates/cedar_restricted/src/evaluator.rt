@@ -5,7 +5,7 @@ ghost use Rattle.cedar_model.specs.Settings.{Setting};
 ghost use Rattle.cedar_model.specs.Agreement.{height};
 ghost use Rattle.cedar_model.specs.Rules.{Meets};
 ghost use Rattle.cedar_model.specs.Restricted.{IsSoundPart};
-ghost use Rattle.cedar_model.specs.RestrictedLaws.{HoldsUnknown};
+ghost use Rattle.cedar_model.specs.laws.Restricted.{HoldsUnknown};
 ghost use Rattle.cedar_restricted.specs.Views.{borrowed_expr, borrowed_term, borrowed_loc};
 ghost use Rattle.cedar_values.specs.Residuals.{partial_view, partial_loc, IfValue};
 ghost use Rattle.cedar_restricted.specs.Evaluations.{partial_answer, value_answer, IsBare, IsAnswerWithin};

@@ -9,7 +9,7 @@ use Rattle.cedar_model.specs.Failures.{PartialValue, value, Answer, answers, fai
 use Rattle.cedar_model.specs.Agreement.{height}
 use Rattle.cedar_model.specs.Operators.{expecting}
 use Rattle.cedar_model.specs.Restricted.{IsSound, IsSoundPart}
-use Rattle.cedar_model.specs.RestrictedLaws.{HoldsUnknown}
+use Rattle.cedar_model.specs.laws.Restricted.{HoldsUnknown}
 use Rattle.cedar_extension_values.specs.Arguments.{key_in, first_of, second_of}
 use Rattle.cedar_extension_values.specs.Functions.{of_key, of_keys, written_or_failed, of_constructor}
 use Rattle.cedar_extension_values.specs.Written.{constructed}

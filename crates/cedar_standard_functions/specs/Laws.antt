@@ -6,7 +6,7 @@ use Rattle.cedar_model.specs.World.{Extensions, Functions}
 use Rattle.cedar_model.specs.Failures.{PartialValue, out_of_memory, Answer, answers, fails, limit, part_expression}
 use Rattle.cedar_model.specs.Agreement.{height}
 use Rattle.cedar_model.specs.Restricted.{IsSoundPart}
-use Rattle.cedar_model.specs.RestrictedLaws.{HoldsUnknown}
+use Rattle.cedar_model.specs.laws.Restricted.{HoldsUnknown}
 use Rattle.cedar_extension_values.specs.Functions.{IsComputed, AsksNothing, AnswersFaithfully}
 use Rattle.cedar_standard_functions.specs.Standard.{name_of, answer_of, made_of, standard_named, HaveStandard}
 use Rattle.cedar_standard_functions.specs.declared.function.StandardFunction.{StandardFunction}

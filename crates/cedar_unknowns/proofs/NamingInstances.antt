@@ -9,7 +9,7 @@ use Rattle.cedar_model.specs.Outcomes.{escaped}
 use Rattle.cedar_model.specs.Printing.{unquoted, id_here, with_byte, read_entity}
 use Rattle.cedar_model.specs.Agreement.{NeverAsks}
 use Rattle.cedar_model.proofs.Injections.{none_is_not_some, some_inj}
-use Rattle.cedar_model.specs.Examples.{some_functions}
+use Rattle.cedar_model.specs.examples.Setting.{some_functions}
 use Rattle.cedar_names.specs.Equality.{annotation_eq}
 use Rattle.cedar_laws.specs.Faithful.{HoldsNoExtensionValue, MapHoldsNoExtensionValue}
 use Rattle.cedar_unknowns.specs.Occurrences.{is_listed}

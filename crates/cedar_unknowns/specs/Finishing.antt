@@ -9,7 +9,7 @@ use Rattle.cedar_model.specs.Configurations.{Configuration}
 use Rattle.cedar_model.specs.Responses.{Stand}
 use Rattle.cedar_model.specs.Chains.{Mapping, Response}
 use Rattle.cedar_model.specs.Reports.{HaveNoResidual}
-use Rattle.cedar_model.specs.ReportLaws.{AreDecidedAs}
+use Rattle.cedar_model.specs.laws.Reports.{AreDecidedAs}
 use Rattle.cedar_laws.specs.Faithful.{MapHoldsNoExtensionValue, NoneAnswers}
 use Rattle.cedar_authorizer.specs.declared.responses.partial_response.PartialResponse.{PartialResponse}
 use Rattle.cedar_authorizer.specs.responses.Rows.{rows_view}

@@ -12,7 +12,7 @@ use Rattle.cedar_model.specs.Responses.{reported_residual}
 use Rattle.cedar_model.specs.Chains.{Mapping, Response}
 use Rattle.cedar_model.specs.Progress.{NamesAll}
 use Rattle.cedar_model.specs.Agreement.{NeverAsks}
-use Rattle.cedar_model.specs.Examples.{user, some_functions}
+use Rattle.cedar_model.specs.examples.Setting.{user, some_functions}
 use Rattle.cedar_laws.specs.Faithful.{MapHoldsNoExtensionValue}
 use Rattle.cedar_unknowns.specs.Occurrences.{each_once}
 use Rattle.cedar_unknowns.specs.Entities.{entities_asked, others_asked}

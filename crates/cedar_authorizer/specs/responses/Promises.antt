@@ -8,7 +8,7 @@ use Rattle.cedar_model.specs.Policies.{ErrorHandling, counted_each, decision, re
 use Rattle.cedar_model.specs.Responses.{Row, Stand}
 use Rattle.cedar_model.specs.Authorizations.{Authorized}
 use Rattle.cedar_model.specs.Reports.{ids, given_decision, HaveNoResidual}
-use Rattle.cedar_model.specs.ReportLaws.{Within}
+use Rattle.cedar_model.specs.laws.Reports.{Within}
 
 -- wherever the rows stand, the policies decide so
 abbrev pub IsDecisionOf : List Row → model.Decision → Type 0

@@ -3,7 +3,7 @@ use Rattle.std.proofs.Common.{refl}
 use Rattle.cedar_model.specs.Chains.{without_map}
 use Rattle.cedar_model.specs.Policies.{permit, skip, forbid_on_error}
 use Rattle.cedar_model.specs.Responses.{truth}
-use Rattle.cedar_model.specs.ChainExamples
+use Rattle.cedar_model.specs.examples.Chains as ChainExamples
 use Rattle.cedar_model.proofs.Exemplified.{chain_opened, finds_none, is_memory, run_to}
 use Rattle.cedar_model.proofs.StrictSteps as strict
 use Rattle.cedar_model.proofs.TwoSteps as two

@@ -2,8 +2,8 @@ use Rattle.std.specs.Prelude.{codes, [], ◌∷◌}
 use Rattle.std.proofs.Common.{refl}
 use Rattle.cedar_model.specs.Terms.{record_of, fields_of, variable, principal, call, terms_of}
 use Rattle.cedar_model.specs.Chains.{substituted_at}
-use Rattle.cedar_model.specs.ChainExamples
-use Rattle.cedar_model.specs.Examples.{x}
+use Rattle.cedar_model.specs.examples.Chains as ChainExamples
+use Rattle.cedar_model.specs.examples.Setting.{x}
 use Rattle.cedar_model.proofs.Exemplified.{chain_opened, runs_to}
 use Rattle.cedar_model.proofs.chain_examples.steps_answer.Goals as goal
 

@@ -2,8 +2,8 @@ use Rattle.std.specs.Prelude.{true}
 use Rattle.std.proofs.Common.{refl}
 use Rattle.cedar_model.specs.Terms.{both}
 use Rattle.cedar_model.specs.Failures.{answers_bool, answers_residual, limit}
-use Rattle.cedar_model.specs.Examples.{x}
-use Rattle.cedar_model.specs.Needs.{two_nots, a_projection}
+use Rattle.cedar_model.specs.examples.Setting.{x}
+use Rattle.cedar_model.specs.examples.Needs.{two_nots, a_projection}
 use Rattle.cedar_model.proofs.Computed.{computed_at, opened}
 use Rattle.cedar_model.proofs.examples.needs_are_levels.Goals as goal
 

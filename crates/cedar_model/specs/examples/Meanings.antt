@@ -12,8 +12,8 @@ use Rattle.cedar_model.specs.Outcomes.{gives_bool}
 use Rattle.cedar_model.specs.World.{World}
 use Rattle.cedar_model.specs.Meaning.{meaning}
 use Rattle.cedar_model.specs.Agreement.{no_slots, own_world}
-use Rattle.cedar_model.specs.Examples.{entity_of_type, long, text, entity, bool, x, example_entity, parent, some_setting}
-use Rattle.cedar_model.specs.Examples.{some_extensions, some_functions}
+use Rattle.cedar_model.specs.examples.Setting.{entity_of_type, long, text, entity, bool, x, example_entity, parent, some_setting}
+use Rattle.cedar_model.specs.examples.Setting.{some_extensions, some_functions}
 
 -- every unknown is 7
 abbrev pub some_world : World

@@ -14,8 +14,8 @@ use Rattle.cedar_model.specs.Failures.{unary_overflow, slot_is_unlinked, Answer,
 use Rattle.cedar_model.specs.Failures.{answers_bool, any_entity}
 use Rattle.cedar_model.specs.Settings.{missing_entity}
 use Rattle.cedar_model.specs.Rules.{Allows}
-use Rattle.cedar_model.specs.Examples.{entity_of_type, user, long, text, entity, bool, x, x_of, example_entity, parent}
-use Rattle.cedar_model.specs.Examples.{some_setting, some_calls}
+use Rattle.cedar_model.specs.examples.Setting.{entity_of_type, user, long, text, entity, bool, x, x_of, example_entity, parent}
+use Rattle.cedar_model.specs.examples.Setting.{some_setting, some_calls}
 
 -- ---- what is allowed
 

@@ -4,7 +4,7 @@ use Rattle.cedar_model.specs.Terms.{not_operator, Term, both, unary, get_attribu
 use Rattle.cedar_model.specs.Failures.{answers_bool, answers_residual}
 use Rattle.cedar_model.specs.Rules.{Runs, Exceeds}
 use Rattle.cedar_model.specs.Policies.{permit, forbid, satisfied, erring, Judged, allow, deny, decision, reasons}
-use Rattle.cedar_model.specs.Examples.{bool, x, some_setting, some_calls}
+use Rattle.cedar_model.specs.examples.Setting.{bool, x, some_setting, some_calls}
 
 -- `!(!true)`
 abbrev pub two_nots : Term

@@ -12,7 +12,7 @@ use Rattle.cedar_model.specs.Reordering.{IsReordering}
 use Rattle.cedar_model.specs.Responses.{Row, Stand, RunOf}
 use Rattle.cedar_model.specs.Chains.{rows_by}
 use Rattle.cedar_model.specs.Authorizations.{IsResponse}
-use Rattle.cedar_model.specs.AuthorizationLaws.{PolicyRuns}
+use Rattle.cedar_model.specs.laws.Authorizations.{PolicyRuns}
 use Rattle.cedar_model.specs.Reports.{ids, given_decision, must_determine, may_determine, concrete_decision}
 use Rattle.cedar_model.specs.Reports.{concrete_reasons}
 use Rattle.cedar_model.specs.Reports.{concretized, HaveNoResidual, judged_row}

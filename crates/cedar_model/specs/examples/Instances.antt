@@ -17,13 +17,13 @@ use Rattle.cedar_model.specs.Settings.{residual_context}
 use Rattle.cedar_model.specs.Settings.{StoredEntity, shallow, Setting}
 use Rattle.cedar_model.specs.Rules.{StoredCalls, Runs, Exceeds}
 use Rattle.cedar_model.specs.Agreement.{height, no_slots, IsCompletion, AgreesWithFunctions, AnswerFaithfully}
-use Rattle.cedar_model.specs.LevelLaws.{FunctionsAnswer, FunctionsMeetNoLimit}
+use Rattle.cedar_model.specs.laws.Levels.{FunctionsAnswer, FunctionsMeetNoLimit}
 use Rattle.cedar_model.specs.Chains.{at_step}
 use Rattle.cedar_model.specs.Restricted.{IsGivenSound, first_disallowed, disallowed, of_variable, of_and}
-use Rattle.cedar_model.specs.RestrictedLaws.{ResidualsHoldUnknowns}
+use Rattle.cedar_model.specs.laws.Restricted.{ResidualsHoldUnknowns}
 use Rattle.cedar_model.specs.Depth.{IsNoHigher, ContextFollows}
 use Rattle.cedar_model.specs.Printing.{read_entity}
-use Rattle.cedar_model.specs.Examples.{entity_of_type, user, long, x, some_calls, some_extensions}
+use Rattle.cedar_model.specs.examples.Setting.{entity_of_type, user, long, x, some_calls, some_extensions}
 
 -- ---- what is given, with unknowns: the principal, a value in the context, and a stored attribute that the map names
 

@@ -26,8 +26,8 @@ use Rattle.cedar_model.specs.Reports.{concrete_errors, definitely_satisfied, def
 use Rattle.cedar_model.specs.Reports.{nontrivial_residual_ids, nontrivial_forbids, get, HaveNoResidual}
 use Rattle.cedar_model.specs.Headline.{Premises}
 use Rattle.cedar_model.specs.Progress.{NamesAll}
-use Rattle.cedar_model.specs.Examples.{entity_of_type, user, long, text, entity, bool, x, some_calls, some_functions}
-use Rattle.cedar_model.specs.Examples.{some_extensions}
+use Rattle.cedar_model.specs.examples.Setting.{entity_of_type, user, long, text, entity, bool, x, some_calls, some_functions}
+use Rattle.cedar_model.specs.examples.Setting.{some_extensions}
 
 -- ---- what responses say
 

@@ -5,7 +5,7 @@ use Rattle.cedar_model.specs.Failures.{Failure, failure_kind}
 use Rattle.cedar_model.specs.World.{Extensions}
 use Rattle.cedar_model.specs.Settings.{RequestPart, Store, Resolution}
 use Rattle.cedar_model.specs.Rules.{StoredCalls}
-use Rattle.cedar_model.specs.LevelLaws.{FunctionsAnswer, FunctionsFindMemory}
+use Rattle.cedar_model.specs.laws.Levels.{FunctionsAnswer, FunctionsFindMemory}
 use Rattle.cedar_model.specs.Alike.{AreFunctional}
 use Rattle.cedar_model.specs.Policies.{Policy, Decision, ErrorHandling}
 use Rattle.cedar_model.specs.Configurations.{configured}
@@ -14,7 +14,7 @@ use Rattle.cedar_model.specs.Chains.{Mapping, Response, Begins, Steps, StepsTo, 
 use Rattle.cedar_model.specs.Chains.{ChainStep, ChainAnswers, ChainOf}
 use Rattle.cedar_model.specs.Authorizations.{HaveNoLimit}
 use Rattle.cedar_model.specs.Reports.{ids, given_decision, must_determine, may_determine}
-use Rattle.cedar_model.specs.ReportLaws.{Within}
+use Rattle.cedar_model.specs.laws.Reports.{Within}
 
 -- where the functions that exist answer, and never running out of memory, there is a first response to policies
 abbrev pub ChainsBegin : StoredCalls → Type 0

@@ -19,8 +19,8 @@ use Rattle.cedar_model.specs.Settings.{StoredEntity, shallow, Setting, missing_e
 use Rattle.cedar_model.specs.Rules.{StoredCalls, Allows}
 use Rattle.cedar_model.specs.Agreement.{no_slots}
 use Rattle.cedar_model.specs.Authorizations.{evaluated}
-use Rattle.cedar_model.specs.Examples.{entity_of_type, user, long, text, entity, bool, x, example_entity, some_facts}
-use Rattle.cedar_model.specs.Examples.{some_map, some_setting}
+use Rattle.cedar_model.specs.examples.Setting.{entity_of_type, user, long, text, entity, bool, x, example_entity, some_facts}
+use Rattle.cedar_model.specs.examples.Setting.{some_map, some_setting}
 
 -- ---- functions without arguments: `one` and `two` answer values of the overloaded type T, `other` one of V, `ask`
 -- an unknown that the map names, `fail` an error

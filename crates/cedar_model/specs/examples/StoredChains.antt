@@ -17,10 +17,10 @@ use Rattle.cedar_model.specs.Reports.{ids, given_decision, must_determine, nontr
 use Rattle.cedar_model.specs.Restricted.{IsSound, IsSoundContext}
 use Rattle.cedar_model.specs.Headline.{Premises}
 use Rattle.cedar_model.specs.Progress.{LeavesNoResidual, NamesAll}
-use Rattle.cedar_model.specs.Examples.{user, long, example_entity, some_calls, some_extensions, some_functions}
+use Rattle.cedar_model.specs.examples.Setting.{user, long, example_entity, some_calls, some_extensions, some_functions}
 use Rattle.cedar_model.specs.Resolutions.{the_set}
-use Rattle.cedar_model.specs.ChainExamples.{row, policy, map_of, an_entity, a_number, requested, empty_context}
-use Rattle.cedar_model.specs.ChainExamples.{configured_in}
+use Rattle.cedar_model.specs.examples.Chains.{row, policy, map_of, an_entity, a_number, requested, empty_context}
+use Rattle.cedar_model.specs.examples.Chains.{configured_in}
 
 -- ---- what is given
 

@@ -1,0 +1,11 @@
+pub mod Values
+pub mod Kinds
+pub mod Levels
+pub mod Restricted
+pub mod Soundness
+pub mod Policies
+pub mod Responses
+pub mod Resolutions
+pub mod Authorizations
+pub mod Reports
+pub mod Chains
