@@ -1,5 +1,5 @@
 -- With what bytes begin, computed: each token and each blank or comment is what this says, and so no other.
-use Rattle.std.proofs.Common.{◌≡◌, ◌≢◌, ℕ, suc, ◌<◌, ◌≤◌, Bool, true, false, cond, not, ◌&&◌, ◌||◌, ◌==◌, Option, Some, None, is_some, List, [], ◌∷◌, ◌++◌, length, take, drop, codes, nat_lt, bytes_eq, encode_utf8, refl, sym, ap, ◌∙◌, subst, ◌⊎◌, inl, inr, arith, tests, rules, one-add, append-nil, append_assoc, length-append, take_at, ne_eqb, add-one}
+use Rattle.std.proofs.Common.{◌≡◌, ◌≢◌, ℕ, suc, ◌<◌, ◌≤◌, Bool, true, false, cond, not, ◌&&◌, ◌==◌, Option, Some, None, is_some, List, [], ◌∷◌, ◌++◌, length, take, drop, codes, nat_lt, bytes_eq, encode_utf8, refl, sym, ap, ◌∙◌, subst, ◌⊎◌, inl, inr, arith, tests, rules, one-add, append-nil, append_assoc, length-append, take_at, ne_eqb, add-one}
 use Rattle.std.specs.List.{list_all, prefix_len}
 use Rattle.std.specs.Char.{is_ascii_digit, is_whitespace}
 use Rattle.std.proofs.lemmas.Bool.{false≢true, and_parts, cases_lt, not-true, or_parts}

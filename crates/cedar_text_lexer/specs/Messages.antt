@@ -1,5 +1,5 @@
 -- What is told of a text that can't be read, but for the place.
-use Rattle.std.specs.Prelude.{ℕ, Bool, true, false, not, ◌&&◌, ◌||◌, ◌==◌, nat_lt, nat_le, if◌then◌else◌, List, [], ◌∷◌, ◌++◌, length, min, codes, decimal, bytes_eq, slice_index, slice_range}
+use Rattle.std.specs.Prelude.{ℕ, Bool, not, ◌&&◌, ◌||◌, ◌==◌, nat_lt, nat_le, if◌then◌else◌, List, [], ◌++◌, length, min, codes, decimal, bytes_eq, slice_index, slice_range, ◌-◌}
 use Rattle.std.specs.List.{list_all}
 use Rattle.cedar_text_lexer.specs.declared.errors.Expected.{Expected}
 use Rattle.cedar_text_lexer.specs.declared.errors.Expected.TheVariants as wanted
@@ -52,6 +52,20 @@ is_seen w =
 abbrev pub is_mark : List ℕ → Bool
 is_mark w =
     (length w == 3) && ((slice_index w 0 == 239) && ((slice_index w 1 == 187) && (slice_index w 2 == 191)))
+
+-- ---- fractions
+
+-- a digit and a point stand before this byte
+abbrev pub follows_point : List ℕ → ℕ → Bool
+follows_point bs i =
+    nat_le 2 i && (nat_le i (length bs) && ((slice_index bs (i - 1) == 46)
+    && (nat_le 48 (slice_index bs (i - 2)) && nat_le (slice_index bs (i - 2)) 57)))
+
+-- a number was found behind them, where this was expected
+abbrev pub fraction_message : Expected → List ℕ
+fraction_message what =
+    codes "expected " ++ (expected_text what
+    ++ codes ", found a number: Cedar has no fractions, but decimals, as in `decimal(\"1.5\")`")
 
 -- ---- characters that begin no token
 
@@ -147,21 +161,43 @@ fault_message text what found w (fault.OpenCall at) = open_message text what fou
 fault_message text what found w (fault.Nodes n) = nodes_message n
 fault_message text what found w fault.Other = expected_found what found
 
--- this was expected where a word of this kind was found
-abbrev pub why_of : List ℕ → Expected → Kind → List ℕ → List ℕ
-why_of text what kind.Unreadable w = unreadable_message w
-why_of text what found w = fault_message text what found w (fault_of what)
+-- this was expected where a word of this kind was found, which begins at byte s
+abbrev pub why_of : List ℕ → Expected → Kind → ℕ → List ℕ → List ℕ
+why_of text what kind.Unreadable s w = unreadable_message w
+why_of text what kind.Number s w =
+    if follows_point text s then fraction_message what else fault_message text what kind.Number w (fault_of what)
+why_of text what found s w = fault_message text what found w (fault_of what)
+
+-- there are more levels than these
+abbrev pub levels_message : ℕ → List ℕ
+levels_message n =
+    codes "the expression has more than " ++ (decimal n
+    ++ codes " levels: each operator, of a chain too, is one more than its parts")
 
 -- why a text can't be read, without the place
 abbrev pub message_of : List ℕ → ReadError → List ℕ
-message_of text error.Memory = codes "memory was wanting"
-message_of text (error.Expected what found s e) = why_of text what found (part_of text s e)
-message_of text (error.TooDeep s e) = codes "the expression is nested too deeply"
+message_of text error.Memory = codes "out of memory"
+message_of text (error.Expected what found s e) = why_of text what found s (part_of text s e)
+message_of text (error.TooDeep n s e) = levels_message n
 
 -- what is told of an error, before the line itself
 abbrev pub told_of : List ℕ → ReadError → List ℕ
-told_of text error.Memory = codes "memory was wanting"
+told_of text error.Memory = codes "out of memory"
 told_of text (error.Expected what found s e) =
     headline_of (position_of text (min s (length text))) (message_of text (error.Expected what found s e))
-told_of text (error.TooDeep s e) =
-    headline_of (position_of text (min s (length text))) (message_of text (error.TooDeep s e))
+told_of text (error.TooDeep n s e) =
+    headline_of (position_of text (min s (length text))) (message_of text (error.TooDeep n s e))
+
+-- ---- what is told without the text
+
+-- why, and at which byte
+abbrev pub at_byte : ℕ → List ℕ → List ℕ
+at_byte s why = codes "byte " ++ (decimal s ++ (codes ": " ++ why))
+
+abbrev pub levels_text : ℕ → List ℕ
+levels_text n = codes "the expression has more than " ++ (decimal n ++ codes " levels")
+
+abbrev pub error_text : ReadError → List ℕ
+error_text error.Memory = codes "out of memory"
+error_text (error.Expected what found s e) = at_byte s (expected_found what found)
+error_text (error.TooDeep n s e) = at_byte s (levels_text n)

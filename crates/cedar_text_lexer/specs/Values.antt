@@ -79,4 +79,4 @@ abbrev pub IsRefusal : Bool → List ℕ → ℕ → ReadError → Type 0
 IsRefusal in_pattern bs at error.Memory = Unit {0}
 IsRefusal in_pattern bs at (error.Expected what found start end) =
     (what ≡ wanted.Escape) × (found ≡ kind.Text) × IsRefusedThere in_pattern bs at start end
-IsRefusal in_pattern bs at (error.TooDeep start end) = ⊥
+IsRefusal in_pattern bs at (error.TooDeep limit start end) = ⊥

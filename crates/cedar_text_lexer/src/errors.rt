@@ -5,6 +5,7 @@ ghost use Rattle.cedar_text_lexer.specs.Kinds as Kinds;
 
 use crate::tokens::{Kind, Token};
 use std::alloc::{AllocError, AllocFailed};
+use std::error::Error;
 
 /// What a text should have had at a place.
 #[derive(Clone, Copy, Debug)]
@@ -100,7 +101,7 @@ pub enum Expected {
 }
 
 /// Why a text can't be read, and where: from the byte `start` up to, but not including, the byte `end`.
-#[derive(Clone, Copy)]
+#[derive(Clone, Copy, Debug)]
 pub enum ReadError {
     /// Out of memory.
     Memory,
@@ -111,12 +112,15 @@ pub enum ReadError {
         start: usize,
         end: usize,
     },
-    /// The expression there is higher than the limit.
+    /// The expression there has more levels than this limit.
     TooDeep {
+        limit: usize,
         start: usize,
         end: usize,
     },
 }
+
+impl Error for ReadError {}
 
 impl From<AllocError> for ReadError {
     ghost from_gives = { λ _ result. result ≡ error.Memory };

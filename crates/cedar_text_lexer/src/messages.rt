@@ -1,5 +1,6 @@
 //! Why a text can't be read, in words.
-ghost use Rattle.std.specs.Prelude.{◌≡◌, ◌++◌, codes, string_bytes, IfOk, length, min};
+ghost use Rattle.std.specs.Prelude.{◌≡◌, ◌++◌, codes, string_bytes, IfOk, Some, length, min};
+ghost use Rattle.std.specs.Fmt.{WritesOnOk};
 ghost use Rattle.std.specs.List.{list_all};
 ghost use Rattle.cedar_text_lexer.specs.Messages as Messages;
 ghost use Rattle.cedar_text_lexer.specs.Positions as Positions;
@@ -9,6 +10,8 @@ use crate::kinds::kind_text;
 use crate::show::locate;
 use crate::tokens::Kind;
 use std::alloc::{AllocError, Global};
+use std::fmt;
+use std::fmt::Display;
 
 // What is at fault.
 #[derive(Clone, Copy)]
@@ -40,17 +43,72 @@ pub fn message(alloc: Global, text: &str, error: ReadError) -> Result<String, Al
     ensures { IfOk result (λ told. string_bytes told ≡ Messages.message_of text.now error) }
 {
     match error {
-        ReadError::Memory => Ok(String::from_str(alloc, "memory was wanting")?),
+        ReadError::Memory => Ok(String::from_str(alloc, "out of memory")?),
         ReadError::Expected {
             what,
             found,
             start,
             end,
-        } => why(alloc, text, what, found, part(text, start, end)),
-        ReadError::TooDeep { .. } => {
-            Ok(String::from_str(alloc, "the expression is nested too deeply")?)
+        } => why(alloc, text, what, found, start, part(text, start, end)),
+        ReadError::TooDeep { limit, .. } => levels(alloc, limit),
+    }
+}
+
+/// What can be said without the text: at which byte, and what was expected and found there or how many levels are read,
+/// as `byte 2: expected an operator, found a number`. The first byte is 0.
+impl fmt::Display for ReadError {
+    ghost output = { λ error. Some (Messages.error_text error) };
+
+    fn fmt<W: fmt::Write>(&self, f: &mut fmt::Formatter<W>) -> fmt::Result {
+        match self {
+            ReadError::Memory => f.write_str("out of memory"),
+            ReadError::Expected {
+                what,
+                found,
+                start,
+                end: _,
+            } => write_expected(*what, *found, *start, f),
+            ReadError::TooDeep {
+                limit,
+                start,
+                end: _,
+            } => write_levels(*limit, *start, f),
         }
     }
+}
+
+fn write_expected<W: fmt::Write>(
+    what: Expected,
+    found: Kind,
+    start: usize,
+    f: &mut fmt::Formatter<W>,
+) -> fmt::Result
+    ensures { WritesOnOk W.write_str_gives f.old result (Messages.at_byte start (Messages.expected_found what found))
+        f.new }
+{
+    f.write_str("byte ")?;
+    start.fmt(f)?;
+    f.write_str(": expected ")?;
+    what.fmt(f)?;
+    f.write_str(", found ")?;
+    found.fmt(f)
+}
+
+fn write_levels<W: fmt::Write>(limit: usize, start: usize, f: &mut fmt::Formatter<W>) -> fmt::Result
+    ensures { WritesOnOk W.write_str_gives f.old result (Messages.at_byte start (Messages.levels_text limit)) f.new }
+{
+    write!(
+        f,
+        "byte {start}: the expression has more than {limit} levels"
+    )
+}
+
+fn levels(alloc: Global, limit: usize) -> Result<String, AllocError>
+    ensures { IfOk result (λ told. string_bytes told ≡ Messages.levels_message limit) }
+{
+    Ok(format!(in alloc;
+        "the expression has more than {limit} levels: each operator, of a chain too, is one more than its parts"
+    )?)
 }
 
 // What stands from byte `start` up to byte `end`, where characters begin there.
@@ -84,14 +142,39 @@ fn why(
     text: &str,
     what: Expected,
     found: Kind,
+    start: usize,
     word: &str,
 ) -> Result<String, AllocError>
-    ensures { IfOk result (λ told. string_bytes told ≡ Messages.why_of text.now what found word.now) }
+    ensures { IfOk result (λ told. string_bytes told ≡ Messages.why_of text.now what found start word.now) }
 {
-    match found {
-        Kind::Unreadable => unreadable(alloc, word),
-        _ => faulty(alloc, text, what, found, word),
+    if found == Kind::Unreadable {
+        unreadable(alloc, word)
+    } else if found == Kind::Number && follows_point(text.as_bytes(), start) {
+        fraction(alloc, what)
+    } else {
+        faulty(alloc, text, what, found, word)
     }
+}
+
+// ---- fractions
+
+// A digit and a point stand before this byte.
+fn follows_point(bytes: &[u8], start: usize) -> bool
+    ensures { result ≡ Messages.follows_point bytes.now start }
+{
+    start >= 2
+        && start <= bytes.len()
+        && bytes[start - 1] == b'.'
+        && bytes[start - 2] >= b'0'
+        && bytes[start - 2] <= b'9'
+}
+
+fn fraction(alloc: Global, what: Expected) -> Result<String, AllocError>
+    ensures { IfOk result (λ told. string_bytes told ≡ Messages.fraction_message what) }
+{
+    Ok(format!(in alloc;
+        "expected {what}, found a number: Cedar has no fractions, but decimals, as in `decimal(\"1.5\")`"
+    )?)
 }
 
 // ---- characters that begin no token

@@ -74,9 +74,9 @@ pub fn show_error(alloc: Global, text: &str, error: ReadError) -> Result<String,
     ensures { IfOk result (λ told. Positions.BeginsWith (string_bytes told) (Messages.told_of text.now error)) }
 {
     match error {
-        ReadError::Memory => Ok(String::from_str(alloc, "memory was wanting")?),
+        ReadError::Memory => Ok(String::from_str(alloc, "out of memory")?),
         ReadError::Expected { start, end, .. } => told(alloc, text, error, start, end),
-        ReadError::TooDeep { start, end } => told(alloc, text, error, start, end),
+        ReadError::TooDeep { start, end, .. } => told(alloc, text, error, start, end),
     }
 }
 
