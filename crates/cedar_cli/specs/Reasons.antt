@@ -42,7 +42,7 @@ IsToldFor Why (refusals.Told lines) = Why
 abbrev pub IsOfText : ReadError → Type 0
 IsOfText reading.Memory = ⊥
 IsOfText (reading.Expected w k s e) = ⊤
-IsOfText (reading.TooDeep s e) = ⊤
+IsOfText (reading.TooDeep n s e) = ⊤
 
 abbrev pub IsOfPolicies : ParseError → Type 0
 IsOfPolicies (parsing.Read e) = IsOfText e

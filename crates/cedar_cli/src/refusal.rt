@@ -5,7 +5,6 @@ ghost use Rattle.cedar_cli.specs.Reasons.{IsToldFor, IsOfText, IsOfPolicies, IsO
 
 use crate::asked::Source;
 use crate::faults::{Fault, Repeated, Wrong, repeated_key, syntax_fault};
-use crate::limits::LEVELS;
 use crate::places::{Places, describe_at};
 use crate::visible::visible;
 use cedar_policy_core::entities::json::JsonError;
@@ -97,7 +96,7 @@ pub(crate) fn unparsed_lines(
 {
     match place_of(error) {
         Some(loc) => {
-            let why = why_of(alloc, places.text(), error)?;
+            let why = message(alloc, places.text(), error)?;
             describe_at(alloc, places, Some(loc), why.as_str())
         }
         None => Err(AllocError),
@@ -122,21 +121,12 @@ fn place_of_read(error: ReadError) -> Option<Loc>
     match error {
         ReadError::Memory => None,
         ReadError::Expected { start, end, .. } => loc(start, end),
-        ReadError::TooDeep { start, end } => loc(start, end),
+        ReadError::TooDeep { start, end, .. } => loc(start, end),
     }
 }
 
 fn loc(start: usize, end: usize) -> Option<Loc> {
     Some(Loc { start, end })
-}
-
-fn why_of(alloc: Global, text: &str, error: &ParseError) -> Result<String, AllocError> {
-    match error {
-        ParseError::Read(ReadError::TooDeep { .. }) => format!(in alloc;
-            "the expression has more than {LEVELS} levels: each operator, of a chain too, is one more than its parts"
-        ),
-        _ => message(alloc, text, error),
-    }
 }
 
 /// The refusal of what can't be read as Cedar's JSON: `NAME: $.path: why`, or `NAME: line L, column C: why` of a text

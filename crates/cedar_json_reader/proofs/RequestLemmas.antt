@@ -39,7 +39,7 @@ no_text_memory t (errors.Memory m) h = tt
 pub no_text : (t : Text) (r : ReadError) (e : JsonError) → IsPathRefused t r → IsWithin t r → IsTold r e → IsNoEntityText t [] e
 no_text t reading.Memory e is within h = no_text_memory t e h
 no_text t (reading.Expected w k s u) e is within h = no_text_at t _ e (expected is within) h
-no_text t (reading.TooDeep s u) e is within h = no_text_at t _ e (too_deep is within) h
+no_text t (reading.TooDeep n s u) e is within h = no_text_at t _ e (too_deep is within) h
 
 -- the same, seen from the object
 pub no_text_under : (t : Text) (there : List Step) (k : Step) (d e : JsonError) → IsNoEntityText t there d → IsUnder k d e → IsNoEntityText t (k ∷ there) e

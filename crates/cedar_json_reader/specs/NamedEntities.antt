@@ -30,8 +30,8 @@ pub data IsTextOf (t : Text) (e : EntityName) : Type 0 where
 pub data IsNoEntity (t : Text) : RefusalReason → Type 0 where
   expected : {w : Expected} {k : Kind} {s e : ℕ} → IsPathRefused t (reading.Expected w k s e) →
       IsWithin t (reading.Expected w k s e) → IsNoEntity t (reasons.NotAnEntityText w s e)
-  too_deep : {s e : ℕ} → IsPathRefused t (reading.TooDeep s e) →
-      IsWithin t (reading.TooDeep s e) → IsNoEntity t (reasons.NotAnEntityText wanted.Entity s e)
+  too_deep : {n s e : ℕ} → IsPathRefused t (reading.TooDeep n s e) →
+      IsWithin t (reading.TooDeep n s e) → IsNoEntity t (reasons.NotAnEntityText wanted.Entity s e)
 
 -- the error says so of the text, which stands there; or memory ran out
 abbrev pub IsNoEntityText : Text → List Step → JsonError → Type 0
@@ -72,4 +72,4 @@ IsUnnamedAt k j e = IsUnnamedIn k (get k j) e
 abbrev pub IsTold : ReadError → JsonError → Type 0
 IsTold reading.Memory e = IsMemory e
 IsTold (reading.Expected w k s t) e = IsRefusedAt [] (reasons.NotAnEntityText w s t) e
-IsTold (reading.TooDeep s t) e = IsRefusedAt [] (reasons.NotAnEntityText wanted.Entity s t) e
+IsTold (reading.TooDeep n s t) e = IsRefusedAt [] (reasons.NotAnEntityText wanted.Entity s t) e

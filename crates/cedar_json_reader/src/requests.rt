@@ -223,7 +223,7 @@ fn no_entity_text(alloc: Global, error: ReadError) -> JsonError
             start,
             end,
         } => JsonError::refusal(alloc, not_expected(what, start, end)),
-        ReadError::TooDeep { start, end } => {
+        ReadError::TooDeep { start, end, .. } => {
             JsonError::refusal(alloc, not_expected(Expected::Entity, start, end))
         }
     }

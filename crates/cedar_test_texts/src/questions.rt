@@ -232,7 +232,7 @@ pub fn put_error(answer: &mut Answer, text: &str, error: ReadError) {
             start,
             end: _,
         } => put_expected(answer, text, what, found, start),
-        ReadError::TooDeep { start, end: _ } => {
+        ReadError::TooDeep { start, .. } => {
             put_position(answer, text, start);
             answer.put(" too deep");
         }

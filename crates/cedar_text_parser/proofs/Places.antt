@@ -51,7 +51,7 @@ pub escape_refused : (text : List ℕ) (all : List Token) {i : ℕ} (b : Bool) (
     IsRefused text all r
 escape_refused text all b error.Memory lt is h = tt
 escape_refused text all b (error.Expected what found s e) lt is (x, y, z) = rw (x, y) (for_escape b lt is z)
-escape_refused text all b (error.TooDeep s e) lt is h = absurd h
+escape_refused text all b (error.TooDeep n s e) lt is h = absurd h
 
 -- ---- within the text
 
@@ -110,7 +110,7 @@ pub refused_within : (text : List ℕ) (all : List Token) → All (Stands text) 
     IsRefused text all r → IsWithin text r
 refused_within text all h error.Memory x = tt
 refused_within text all h (error.Expected what found s e) x = expects_within text all h x
-refused_within text all h (error.TooDeep s e) x = absurd x
+refused_within text all h (error.TooDeep n s e) x = absurd x
 
 step_within : (text : List ℕ) (all : List Token) → All (Stands text) all → {ts : List Tree} {w : What} (r : ReadError) →
     IsRefusedOn text all ts w r → IsWithin text r

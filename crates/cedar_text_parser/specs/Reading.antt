@@ -50,7 +50,7 @@ pub data IsNotParsed (k : Knowledge) (text : List ℕ) : ParseError → Type 0 w
 abbrev pub IsWithin : List ℕ → ReadError → Type 0
 IsWithin text error.Memory = Unit {0}
 IsWithin text (error.Expected what found s e) = (s ≤ e) × (e ≤ length text)
-IsWithin text (error.TooDeep s e) = (s ≤ e) × (e ≤ length text)
+IsWithin text (error.TooDeep n s e) = (s ≤ e) × (e ≤ length text)
 
 abbrev pub IsPlaceWithin : List ℕ → ParseError → Type 0
 IsPlaceWithin text (parse.Read r) = IsWithin text r

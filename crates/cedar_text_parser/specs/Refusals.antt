@@ -47,13 +47,13 @@ CountsIn n _ = Unit {0}
 abbrev pub Counts : ℕ → ReadError → Type 0
 Counts n error.Memory = Unit {0}
 Counts n (error.Expected what found s e) = CountsIn n what
-Counts n (error.TooDeep s e) = Unit {0}
+Counts n (error.TooDeep m s e) = Unit {0}
 
 -- an error that the tokens alone tell, or out of memory
 abbrev pub IsRefused : List ℕ → List Token → ReadError → Type 0
 IsRefused text all error.Memory = Unit {0}
 IsRefused text all (error.Expected what found s e) = Expects text all what found s e
-IsRefused text all (error.TooDeep s e) = ⊥
+IsRefused text all (error.TooDeep n s e) = ⊥
 
 -- ---- keys
 

@@ -13,13 +13,13 @@ pub token_placed : {all : List Token} {i : ℕ} {t : Token} {r : ReadError} (wha
     t ≡ token_at all i → r ≡ error.Expected (what_for what t.kind) t.kind t.start t.end → IsPlaced all r
 token_placed what lt t_is r_is = rw (r_is, t_is) (at_token what lt)
 
-pub deep_placed : {all : List Token} {i s : ℕ} {t : Token} → i < length all → t ≡ token_at all i → s ≤ t.end →
-    IsPlaced all (error.TooDeep s t.end)
-deep_placed {all} {i} {s} lt t_is le = rw t_is (up_to_token lt (rw t_is at le))
+pub deep_placed : {all : List Token} {n i s : ℕ} {t : Token} → i < length all → t ≡ token_at all i → s ≤ t.end →
+    IsPlaced all (error.TooDeep n s t.end)
+deep_placed {all} {n} {i} {s} lt t_is le = rw t_is (up_to_token lt (rw t_is at le))
 
-pub deep_up_to : {all : List Token} {i s e : ℕ} → i < length all → e ≡ end_at all i → s ≤ e →
-    IsPlaced all (error.TooDeep s e)
-deep_up_to {all} {i} {s} lt e_is le = rw e_is (up_to_token {i = i} lt (rw e_is at le))
+pub deep_up_to : {all : List Token} {n i s e : ℕ} → i < length all → e ≡ end_at all i → s ≤ e →
+    IsPlaced all (error.TooDeep n s e)
+deep_up_to {all} {n} {i} {s} lt e_is le = rw e_is (up_to_token {i = i} lt (rw e_is at le))
 
 pub end_placed : {all : List Token} {e : ℕ} {what : Expected} {f : Kind} → e ≡ end_of all →
     IsPlaced all (error.Expected what f e e)

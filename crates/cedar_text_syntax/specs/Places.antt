@@ -44,4 +44,4 @@ pub data IsPlaced (all : List Token) : ReadError → Type 0 where
   at_token : {i : ℕ} (what : Expected) → i < length all →
       IsPlaced all (error.Expected (what_for what (kind_at all i)) (kind_at all i) (start_at all i) (end_at all i))
   at_end : {what : Expected} {found : Kind} → IsPlaced all (error.Expected what found (end_of all) (end_of all))
-  up_to_token : {i s : ℕ} → i < length all → s ≤ end_at all i → IsPlaced all (error.TooDeep s (end_at all i))
+  up_to_token : {n i s : ℕ} → i < length all → s ≤ end_at all i → IsPlaced all (error.TooDeep n s (end_at all i))

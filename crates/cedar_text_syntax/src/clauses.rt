@@ -61,7 +61,7 @@ impl Written {
     {
         expect(tokens, index, Kind::Semicolon, Expected::Clause)?;
         if limit == 0 {
-            return Err(too_deep(tokens, start_at(tokens, index), index));
+            return Err(too_deep(tokens, start_at(tokens, index), index, limit));
         }
         let what = What::Leaf(Leaf::Bool(true));
         self.put(tokens, what, start_at(tokens, index), end_at(tokens, index))?;
@@ -111,7 +111,7 @@ impl Written {
         let more = self.clause(alloc, tokens, before.next, limit)?;
         let below = before.height.max(more.height);
         if limit <= below {
-            return Err(too_deep(tokens, start, more.next));
+            return Err(too_deep(tokens, start, more.next, limit));
         }
         self.put(tokens, What::Binary(Binary::And), start, more.end)?;
         Ok(Clause {
@@ -176,7 +176,7 @@ impl Written {
         let next = close + 1;
         if negates {
             if limit <= height {
-                return Err(too_deep(tokens, start, close));
+                return Err(too_deep(tokens, start, close, limit));
             }
             self.put(tokens, What::Unary(Unary::Sign(Sign::Not)), start, end)?;
             Ok(Clause {

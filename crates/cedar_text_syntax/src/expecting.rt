@@ -125,13 +125,14 @@ pub fn expected_at(tokens: &[Token], index: usize, what: Expected) -> ReadError
     }
 }
 
-/// The error that what stands from this byte on, and ends with the token of this number, is too high.
-pub fn too_deep(tokens: &[Token], start: usize, index: usize) -> ReadError
+/// The error that what stands from this byte on, and ends with the token of this number, has more levels than the limit.
+pub fn too_deep(tokens: &[Token], start: usize, index: usize, limit: usize) -> ReadError
     ensures { IsPlaced tokens.now result }
 {
     if index < tokens.len() {
         let end = end_at(tokens, index);
         ReadError::TooDeep {
+            limit,
             start: start.min(end),
             end,
         }

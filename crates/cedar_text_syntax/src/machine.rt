@@ -224,12 +224,18 @@ fn turn(work: &mut Work, state: State, tokens: &[Token], index: usize) -> Result
 {
     match work.take(state, tokens, index) {
         Ok(next) => Ok(next),
-        Err(refusal) => Err(place_refusal(refusal, tokens, index, work.start)),
+        Err(refusal) => Err(place_refusal(refusal, tokens, index, work.start, work.limit)),
     }
 }
 
-// The error at the token of this number; what is too high begins at this byte.
-fn place_refusal(refusal: Refusal, tokens: &[Token], index: usize, start: usize) -> ReadError
+// The error at the token of this number; what has more levels than the limit begins at this byte.
+fn place_refusal(
+    refusal: Refusal,
+    tokens: &[Token],
+    index: usize,
+    start: usize,
+    limit: usize,
+) -> ReadError
     requires { index < length tokens.now }
     ensures { IsPlaced tokens.now result }
 {
@@ -238,6 +244,7 @@ fn place_refusal(refusal: Refusal, tokens: &[Token], index: usize, start: usize)
         Refusal::Memory => ReadError::Memory,
         Refusal::Expected(what) => ReadError::expected(what, token),
         Refusal::TooDeep => ReadError::TooDeep {
+            limit,
             start: start.min(token.end),
             end: token.end,
         },
