@@ -20,8 +20,8 @@ to one more than it needs.) It is {count} definitions, {lines} lines with their 
 The rules by which an evaluator comes to an answer (`Rules` and `Operators`) are not among them{but}:
 the headline speaks of what expressions mean in a world, and of what policies decide there.
 
-First those of `cedar_model`, {model} lines, by name; then, by their number, how Rust's types are seen as that data, and what the
-standard functions answer.
+First those of `cedar_model`, {model} lines, and of `cedar_authorizer`, by name; then, by their number, how Rust's types are seen as that
+data, and what the standard functions answer.
 """
 
 
@@ -122,12 +122,12 @@ def page():
     but = f", but for {' and '.join(f'`{it}`' for it in rules)}" if rules else ""
     out = [HEAD.format(count=len(found), lines=f"{lines:,}", model=f"{model:,}", but=but)]
     out += ["| File | Lines | Definitions |", "|---|---|---|"]
-    paths = sorted({it[0] for it in found}, key=lambda it: ("cedar_model/" not in it, it))
+    paths = sorted({it[0] for it in found}, key=lambda it: ("cedar_model/" not in it, "cedar_authorizer/" not in it, it))
     for path in paths:
         names = sorted((name for where, name in found if where == path), key=list(files[path].blocks).index)
         count = sum(files[path].blocks[name][1] for name in names)
         where = path[len("crates/"):-len(".antt")]
-        if "/cedar_model/" not in path:
+        if "/cedar_model/" not in path and "/cedar_authorizer/" not in path:
             out.append(f"| `{where}` | {count} | {len(names)} |")
             continue
         part = ""
