@@ -9,7 +9,8 @@ use Rattle.cedar_text_parser.specs.TermCalls.{TermCallsAreKnown}
 use Rattle.cedar_text_parser.specs.PolicyReading.{IsPolicyText, AreAllRead}
 use Rattle.cedar_text_parser.specs.declared.policies.ParsedPolicies.{ParsedPolicies}
 
--- each call in the condition, scope and all, is of a function that is known, with its number of arguments
+-- each call in the condition, scope and all, is of a function that is known, with its number of arguments, and no
+-- unknown stands in it
 abbrev pub ConditionCallsAreKnown : Knowledge → Policy → Type 0
 ConditionCallsAreKnown k p = TermCallsAreKnown k (condition_term (policy_view p))
 

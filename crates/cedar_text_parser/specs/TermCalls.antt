@@ -1,4 +1,5 @@
--- Which functions an expression calls, and whether they are known.
+-- Which functions an expression calls, and whether they are known. What is read has no unknown: in a text an unknown
+-- is a call.
 use Rattle.std.specs.Prelude.{◌≡◌, ℕ, suc, List, ⊤}
 use Rattle.cedar_model.specs.Terms.{Text, Term, literal, variable, slot, unknown, if_then_else, both, either, unary}
 use Rattle.cedar_model.specs.Terms.{binary, call, get_attribute, has_attribute, extended_has, like, is_of_type, set_of}
@@ -30,12 +31,12 @@ abbrev pub IsKnownWith : Knowledge → Text → ℕ → Type 0
 IsKnownWith k f n = Takes (known_of k f) n
 
 abbrev mutual
-  -- each call in the term is of a function that is known, with its number of arguments
+  -- each call in the term is of a function that is known, with its number of arguments, and no unknown stands in it
   pub TermCallsAreKnown : Knowledge → Term → Type 0
   TermCallsAreKnown k (literal l) = ⊤
   TermCallsAreKnown k (variable v) = ⊤
   TermCallsAreKnown k (slot s) = ⊤
-  TermCallsAreKnown k (unknown n t) = ⊤
+  TermCallsAreKnown k (unknown n t) = ⊥
   TermCallsAreKnown k (if_then_else c a b) = TermCallsAreKnown k c × TermCallsAreKnown k a × TermCallsAreKnown k b
   TermCallsAreKnown k (both a b) = TermCallsAreKnown k a × TermCallsAreKnown k b
   TermCallsAreKnown k (either a b) = TermCallsAreKnown k a × TermCallsAreKnown k b
@@ -58,7 +59,7 @@ abbrev mutual
   CallsOfFieldsAreKnown k no_fields = ⊤
   CallsOfFieldsAreKnown k (one_field n t fs) = TermCallsAreKnown k t × CallsOfFieldsAreKnown k fs
 
--- an expression calls known functions alone, where the tree that it is does
+-- an expression has no unknown, and calls known functions alone where the tree that it is does
 abbrev pub KnownCallsStayKnown : Type 0
 KnownCallsStayKnown =
     (k : Knowledge) (text : List ℕ) (all : List Token) (x : Expr) (p : Tree) → Is text all x p →

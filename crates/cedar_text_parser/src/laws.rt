@@ -8,7 +8,7 @@ pub fn trees_bound_heights()
 {}
 
 /// Where each call in a tree is of a function that is known, with its number of arguments, so is each call in the
-/// expression that is read of it.
+/// expression that is read of it, which has no unknown: in a text an unknown is a call.
 pub fn known_calls_stay_known()
     ensures trees { KnownCallsStayKnown }
     ensures read { WhatIsReadCallsKnown }

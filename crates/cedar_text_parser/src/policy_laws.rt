@@ -2,7 +2,7 @@
 ghost use Rattle.cedar_text_parser.specs.PolicyTermCalls.{ReadPolicyCallsKnown, ReadPoliciesCallKnown};
 
 /// Each call in the condition of a policy that is read, its scope included, is of a function that is known, with its
-/// number of arguments; so it is of each policy and each template of a text.
+/// number of arguments, and no unknown stands in it; so it is of each policy and each template of a text.
 pub fn known_calls_of_policies()
     ensures policy { ReadPolicyCallsKnown }
     ensures policies { ReadPoliciesCallKnown }
