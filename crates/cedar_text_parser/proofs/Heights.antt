@@ -12,7 +12,6 @@ use Rattle.std.specs.declared.rc.RcStr.{RcStr}
 use Rattle.cedar_model.specs.Agreement.{height, greatest_height, greatest_height_at}
 use Rattle.cedar_model.specs.Terms as model
 use Rattle.cedar_model.specs.Terms.{Text, Term, Fields, no_fields, one_field, fields_of}
-use Rattle.cedar_text_lexer.specs.declared.tokens.Token.{Token}
 use Rattle.cedar_names.specs.Leaves.{slot_view, variable_view, unary_view, binary_view, pattern_view, type_view}
 use Rattle.cedar_names.specs.Leaves.{literal_view}
 use Rattle.cedar_names.specs.Names.{type_text}
@@ -52,6 +51,7 @@ use Rattle.cedar_text_parser.specs.Building.{is_conditional, is_bracketed, is_re
 use Rattle.cedar_text_parser.specs.Building.{AreFields, no_field, field_behind}
 use Rattle.cedar_text_parser.specs.Heights.{IsNoHigher}
 use Rattle.cedar_text_parser.specs.Reading.{IsRead, is_read}
+use Rattle.cedar_text_parser.specs.Sources.{Tokenized}
 use Rattle.cedar_text_parser.specs.Wording.{method_of, word_at}
 use Rattle.cedar_text_parser.specs.declared.words.MethodKind.{MethodKind}
 use Rattle.cedar_text_parser.specs.declared.words.MethodKind.TheVariants as methods
@@ -131,74 +131,74 @@ slot_height : (o : Option SlotId) (n : Node) → option_map node.Slot o ≡ Some
 slot_height None n is = absurd (cc)
 slot_height (Some s) n is = ap node_height (sym (same_Some (node.Slot s) n is))
 
-text_height : {text : List ℕ} {all : List Token} {i : ℕ} (n : Node) → IsText text all i n → node_height n ≡ 1
+text_height : {source : Tokenized} {i : ℕ} (n : Node) → IsText source i n → node_height n ≡ 1
 text_height _ (text_node at) = refl
 
-entity_height : {text : List ℕ} {all : List Token} {i k s e : ℕ} (n : Node) → IsEntity text all i k s e n →
+entity_height : {source : Tokenized} {i k s e : ℕ} (n : Node) → IsEntity source i k s e n →
     node_height n ≡ 1
 entity_height _ (entity_node at) = refl
 
-leaf_height : (text : List ℕ) (all : List Token) (s e : ℕ) (l : Leaf) (n : Node) → IsLeaf text all l s e n →
+leaf_height : (source : Tokenized) (s e : ℕ) (l : Leaf) (n : Node) → IsLeaf source l s e n →
     node_height n ≡ 1
-leaf_height text all s e (leaves.Bool b) n is = ap node_height is
-leaf_height text all s e (leaves.Long i) n is = ap node_height is
-leaf_height text all s e (leaves.NegativeLong i) n is = ap node_height is
-leaf_height text all s e (leaves.Text i) n is = text_height n is
-leaf_height text all s e (leaves.Variable i) n is = variable_height _ n is
-leaf_height text all s e (leaves.Entity i k) n is = entity_height n is
-leaf_height text all s e (leaves.Slot i) n is = slot_height _ n is
+leaf_height source s e (leaves.Bool b) n is = ap node_height is
+leaf_height source s e (leaves.Long i) n is = ap node_height is
+leaf_height source s e (leaves.NegativeLong i) n is = ap node_height is
+leaf_height source s e (leaves.Text i) n is = text_height n is
+leaf_height source s e (leaves.Variable i) n is = variable_height _ n is
+leaf_height source s e (leaves.Entity i k) n is = entity_height n is
+leaf_height source s e (leaves.Slot i) n is = slot_height _ n is
 
-attribute_height : {text : List ℕ} {all : List Token} {i : ℕ} {y : Expr} (n : Node) → IsAttribute text all i y n →
+attribute_height : {source : Tokenized} {i : ℕ} {y : Expr} (n : Node) → IsAttribute source i y n →
     node_height n ≡ suc (height (view y))
 attribute_height _ (attribute_node at) = refl
 
-has_height : {text : List ℕ} {all : List Token} {i k : ℕ} {y : Expr} (n : Node) → IsHas text all i k y n →
+has_height : {source : Tokenized} {i k : ℕ} {y : Expr} (n : Node) → IsHas source i k y n →
     node_height n ≡ suc (height (view y))
 has_height _ (has_one at) = refl
 has_height _ (has_more at more) = refl
 
-like_height : {text : List ℕ} {all : List Token} {i : ℕ} {y : Expr} (n : Node) → IsLike text all i y n →
+like_height : {source : Tokenized} {i : ℕ} {y : Expr} (n : Node) → IsLike source i y n →
     node_height n ≡ suc (height (view y))
 like_height _ (like_node at) = refl
 
-type_height : {text : List ℕ} {all : List Token} {i k : ℕ} {y : Expr} (n : Node) → IsOfType text all i k y n →
+type_height : {source : Tokenized} {i k : ℕ} {y : Expr} (n : Node) → IsOfType source i k y n →
     node_height n ≡ suc (height (view y))
 type_height _ (type_node at) = refl
 
-unary_height : (text : List ℕ) (all : List Token) (y : Expr) (u : Unary) (n : Node) → IsUnary text all u y n →
+unary_height : (source : Tokenized) (y : Expr) (u : Unary) (n : Node) → IsUnary source u y n →
     node_height n ≡ suc (height (view y))
-unary_height text all y (unaries.Sign Not) n is = ap node_height is
-unary_height text all y (unaries.Sign Neg) n is = ap node_height is
-unary_height text all y (unaries.Attribute i) n is = attribute_height n is
-unary_height text all y (unaries.Has i k) n is = has_height n is
-unary_height text all y (unaries.Like i) n is = like_height n is
-unary_height text all y (unaries.Is i k) n is = type_height n is
+unary_height source y (unaries.Sign Not) n is = ap node_height is
+unary_height source y (unaries.Sign Neg) n is = ap node_height is
+unary_height source y (unaries.Attribute i) n is = attribute_height n is
+unary_height source y (unaries.Has i k) n is = has_height n is
+unary_height source y (unaries.Like i) n is = like_height n is
+unary_height source y (unaries.Is i k) n is = type_height n is
 
 -- `y is T && y in z` is two levels above the higher of y and z
-type_in_height : {text : List ℕ} {all : List Token} {i k : ℕ} {y z : Expr} {s e : ℕ} (n : Node) →
-    IsOfTypeIn text all i k y z s e n → node_height n ≤ max (height (view y)) (height (view z)) + 2
+type_in_height : {source : Tokenized} {i k : ℕ} {y z : Expr} {s e : ℕ} (n : Node) →
+    IsOfTypeIn source i k y z s e n → node_height n ≤ max (height (view y)) (height (view z)) + 2
 type_in_height {z = z} _ (type_in_node {p = p} {q = q} {x = x} of_type at_p copy relation at_q) =
     let of_p = height_by_node p (node_of p) refl ∙ type_height (node_of p) of_type in
     let of_q = height_by_node q (node.BinaryApp binary_op.In x z) relation in
     let of_x = ap height copy.same_view in
     omega arith
 
-binary_height : (text : List ℕ) (all : List Token) (y z : Expr) (s e : ℕ) (b : Binary) (n : Node) →
-    IsBinary text all b y z s e n → node_height n ≤ max (height (view y)) (height (view z)) + levels_of b
-binary_height text all y z s e binaries.Or n is = let h = ap node_height is in omega arith
-binary_height text all y z s e binaries.And n is = let h = ap node_height is in omega arith
-binary_height text all y z s e binaries.Equal n is = let h = ap node_height is in omega arith
-binary_height text all y z s e binaries.Less n is = let h = ap node_height is in omega arith
-binary_height text all y z s e binaries.LessEqual n is = let h = ap node_height is in omega arith
-binary_height text all y z s e binaries.In n is = let h = ap node_height is in omega arith
-binary_height text all y z s e binaries.Add n is = let h = ap node_height is in omega arith
-binary_height text all y z s e binaries.Sub n is = let h = ap node_height is in omega arith
-binary_height text all y z s e binaries.Mul n is = let h = ap node_height is in omega arith
-binary_height text all y z s e (binaries.IsIn i k) n is = type_in_height n is
+binary_height : (source : Tokenized) (y z : Expr) (s e : ℕ) (b : Binary) (n : Node) →
+    IsBinary source b y z s e n → node_height n ≤ max (height (view y)) (height (view z)) + levels_of b
+binary_height source y z s e binaries.Or n is = let h = ap node_height is in omega arith
+binary_height source y z s e binaries.And n is = let h = ap node_height is in omega arith
+binary_height source y z s e binaries.Equal n is = let h = ap node_height is in omega arith
+binary_height source y z s e binaries.Less n is = let h = ap node_height is in omega arith
+binary_height source y z s e binaries.LessEqual n is = let h = ap node_height is in omega arith
+binary_height source y z s e binaries.In n is = let h = ap node_height is in omega arith
+binary_height source y z s e binaries.Add n is = let h = ap node_height is in omega arith
+binary_height source y z s e binaries.Sub n is = let h = ap node_height is in omega arith
+binary_height source y z s e binaries.Mul n is = let h = ap node_height is in omega arith
+binary_height source y z s e (binaries.IsIn i k) n is = type_in_height n is
 
 -- ---- parts in brackets
 
-call_height : {text : List ℕ} {all : List Token} {i k : ℕ} {ys : List Expr} (n : Node) → IsCall text all i k ys n →
+call_height : {source : Tokenized} {i k : ℕ} {ys : List Expr} (n : Node) → IsCall source i k ys n →
     node_height n ≡ suc (greatest_height (terms_view ys))
 call_height _ (call_node at) = refl
 
@@ -210,18 +210,18 @@ emptiness_height : (ys : List Expr) (n : Node) → IsEmptiness ys n →
     node_height n ≤ suc (greatest_height (terms_view ys))
 emptiness_height _ _ emptiness = omega arith
 
-method_height : (text : List ℕ) (all : List Token) (i : ℕ) (m : MethodKind) (ys : List Expr) (n : Node) →
-    IsMethod text all i m ys n → node_height n ≤ suc (greatest_height (terms_view ys))
-method_height text all i (methods.Operator op) ys n is = operation_height ys n is
-method_height text all i methods.IsEmpty ys n is = emptiness_height ys n is
-method_height text all i methods.Function ys n is = let h = call_height n is in omega arith
+method_height : (source : Tokenized) (i : ℕ) (m : MethodKind) (ys : List Expr) (n : Node) →
+    IsMethod source i m ys n → node_height n ≤ suc (greatest_height (terms_view ys))
+method_height source i (methods.Operator op) ys n is = operation_height ys n is
+method_height source i methods.IsEmpty ys n is = emptiness_height ys n is
+method_height source i methods.Function ys n is = let h = call_height n is in omega arith
 
-bracketed_height : (text : List ℕ) (all : List Token) (k : Bracketed) (ys : List Expr) (n : Node) →
-    IsBracketed text all k ys n → node_height n ≤ suc (greatest_height (terms_view ys))
-bracketed_height text all Set ys n is = let h = ap node_height is in omega arith
-bracketed_height text all Record ys n is = absurd is
-bracketed_height text all (Call i k) ys n is = let h = call_height n is in omega arith
-bracketed_height text all (Method i) ys n is = method_height text all i (method_of (word_at text all i)) ys n is
+bracketed_height : (source : Tokenized) (k : Bracketed) (ys : List Expr) (n : Node) →
+    IsBracketed source k ys n → node_height n ≤ suc (greatest_height (terms_view ys))
+bracketed_height source Set ys n is = let h = ap node_height is in omega arith
+bracketed_height source Record ys n is = absurd is
+bracketed_height source (Call i k) ys n is = let h = call_height n is in omega arith
+bracketed_height source (Method i) ys n is = method_height source i (method_of (word_at source i)) ys n is
 
 -- a part more, behind the others
 greatest_behind : (ys : List Expr) (y : Expr) → greatest_height (terms_view (ys ++ y ∷ []))
@@ -272,17 +272,17 @@ greatest_field_behind (f ∷ fs) key y = let h = greatest_field_behind fs key y 
 -- ---- trees
 
 mutual
-  pub low : {text : List ℕ} {all : List Token} (x : Expr) (p : Tree) → Is text all x p →
+  pub low : {source : Tokenized} (x : Expr) (p : Tree) → Is source x p →
       height (view x) ≤ trees.height p
-  low {text} {all} x _ (is_leaf {l = l} {s = s} {e = e} leaf at) =
-      let h = height_by_node x (node_of x) refl ∙ leaf_height text all s e l (node_of x) leaf in omega arith
-  low {text} {all} x _ (is_unary {y = y} {u = u} {p = p} part is at) =
-      let h = height_by_node x (node_of x) refl ∙ unary_height text all y u (node_of x) is in
+  low {source} x _ (is_leaf {l = l} {s = s} {e = e} leaf at) =
+      let h = height_by_node x (node_of x) refl ∙ leaf_height source s e l (node_of x) leaf in omega arith
+  low {source} x _ (is_unary {y = y} {u = u} {p = p} part is at) =
+      let h = height_by_node x (node_of x) refl ∙ unary_height source y u (node_of x) is in
       let of_y = low y p part in
       omega arith
-  low {text} {all} x _ (is_binary {y = y} {z = z} {b = b} {p = p} {q = q} {s = s} {e = e} left right is at) =
+  low {source} x _ (is_binary {y = y} {z = z} {b = b} {p = p} {q = q} {s = s} {e = e} left right is at) =
       let h = height_by_node x (node_of x) refl in
-      let n = binary_height text all y z s e b (node_of x) is in
+      let n = binary_height source y z s e b (node_of x) is in
       let of_y = low y p left in
       let of_z = low z q right in
       omega arith
@@ -292,9 +292,9 @@ mutual
       let of_y = low y q first in
       let of_z = low z r second in
       omega arith
-  low {text} {all} x _ (is_bracketed {ys = ys} {k = k} {ps = ps} parts is at) =
+  low {source} x _ (is_bracketed {ys = ys} {k = k} {ps = ps} parts is at) =
       let h = height_by_node x (node_of x) refl in
-      let n = bracketed_height text all k ys (node_of x) is in
+      let n = bracketed_height source k ys (node_of x) is in
       let of_ys = are_low ys ps parts in
       omega arith
   low x _ (is_record {fs = fs} {ps = ps} fields distinct is at) =
@@ -303,7 +303,7 @@ mutual
       let of_fs = fields_low fs ps fields in
       omega arith
 
-  are_low : {text : List ℕ} {all : List Token} (ys : List Expr) (ps : Trees) → AreParts text all ys ps →
+  are_low : {source : Tokenized} (ys : List Expr) (ps : Trees) → AreParts source ys ps →
       greatest_height (terms_view ys) ≤ tallest ps
   are_low _ _ no_part = omega arith
   are_low _ _ (part_behind {ys = ys} {ps = ps} {y = y} {p = p} parts part) =
@@ -312,8 +312,8 @@ mutual
       let of_y = low y p part in
       omega arith
 
-  fields_low : {text : List ℕ} {all : List Token} (fs : List (RcStr Global × Expr)) (ps : Trees) →
-      AreFields text all fs ps → greatest_of (pairs_view fs) ≤ tallest ps
+  fields_low : {source : Tokenized} (fs : List (RcStr Global × Expr)) (ps : Trees) →
+      AreFields source fs ps → greatest_of (pairs_view fs) ≤ tallest ps
   fields_low _ _ no_field = omega arith
   fields_low _ _ (field_behind {fs = fs} {ps = ps} {y = y} {p = p} key fields named part) =
       let h = greatest_field_behind fs key y in

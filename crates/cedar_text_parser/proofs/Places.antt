@@ -31,33 +31,38 @@ use Rattle.cedar_text_parser.specs.Refusals.{AreRefused, at_step, at_last, IsRef
 use Rattle.cedar_text_parser.specs.Refusals.{Expects, for_long, for_escape, for_one_argument, for_no_argument, for_steps}
 use Rattle.cedar_text_parser.specs.Building.{Are, no_more, one_more, is_whole}
 use Rattle.cedar_text_parser.specs.Finished.{unkeyed}
+use Rattle.cedar_text_parser.specs.Sources.{Tokenized}
 use Rattle.cedar_text_parser.specs.Wording.{word_at}
 use Rattle.cedar_text_parser.specs.declared.builder.Part.{Part}
 use Rattle.cedar_text_parser.specs.declared.reading.Four.{Four}
 use Rattle.cedar_text_parser.proofs.Again.{again_within}
 
--- the token of this number is one of the text's, where all are
-pub token_stands : (text : List ℕ) (all : List Token) (i : ℕ) → i < length all → All (Stands text) all →
+stands_in : (text : List ℕ) (all : List Token) (i : ℕ) → i < length all → All (Stands text) all →
     Stands text (token_at all i)
 unfolding token_at
-token_stands text [] i lt h = absurd (omega (arith, lt))
-token_stands text (t ∷ ts) zero lt h = h 0 t lt
-token_stands text (t ∷ ts) (suc i) lt h =
-    token_stands text ts i (omega (arith, lt)) (λ k d below. h (suc k) d (omega (arith, below)))
+stands_in text [] i lt h = absurd (omega (arith, lt))
+stands_in text (t ∷ ts) zero lt h = h 0 t lt
+stands_in text (t ∷ ts) (suc i) lt h =
+    stands_in text ts i (omega (arith, lt)) (λ k d below. h (suc k) d (omega (arith, below)))
+
+-- the token of this number is one of the text's, where all are
+pub token_stands : (source : Tokenized) (i : ℕ) → i < length source.tokens → All (Stands source.text) source.tokens →
+    Stands source.text (token_at source.tokens i)
+token_stands source i lt h = stands_in source.text source.tokens i lt h
 
 -- what is said of an escape is said of the step
-pub escape_refused : (text : List ℕ) (all : List Token) {i : ℕ} (b : Bool) (r : ReadError) → i < length all →
-    kind_at all i ≡ kind.Text → IsRefusal b (inside_of (word_at text all i)) (start_at all i + 1) r →
-    IsRefused text all r
-escape_refused text all b error.Memory lt is h = tt
-escape_refused text all b (error.Expected what found s e) lt is (x, y, z) = rw (x, y) (for_escape b lt is z)
-escape_refused text all b (error.TooDeep n s e) lt is h = absurd h
+pub escape_refused : (source : Tokenized) {i : ℕ} (b : Bool) (r : ReadError) → i < length source.tokens →
+    kind_at source.tokens i ≡ kind.Text → IsRefusal b (inside_of (word_at source i)) (start_at source.tokens i + 1) r →
+    IsRefused source r
+escape_refused source b error.Memory lt is h = tt
+escape_refused source b (error.Expected what found s e) lt is (x, y, z) = rw (x, y) (for_escape b lt is z)
+escape_refused source b (error.TooDeep n s e) lt is h = absurd h
 
 -- ---- within the text
 
-pub token_within : (text : List ℕ) (all : List Token) (i : ℕ) → All (Stands text) all → i < length all →
-    (start_at all i ≤ end_at all i) × (end_at all i ≤ length text)
-token_within text all i h lt = let s = token_stands text all i lt h in (s.order, s.end.0)
+pub token_within : (source : Tokenized) (i : ℕ) → All (Stands source.text) source.tokens → i < length source.tokens →
+    (start_at source.tokens i ≤ end_at source.tokens i) × (end_at source.tokens i ≤ length source.text)
+token_within source i h lt = let s = token_stands source i lt h in (s.order, s.end.0)
 
 return_bound : (bs : List ℕ) → begins_bare_return bs ≡ true → 1 ≤ length bs
 return_bound [] h = absurd (false≢true h)
@@ -95,47 +100,53 @@ inside_bound text t h is =
     let inner = range_length (word_of text t) 1 (length (word_of text t) - 1) (omega (arith, q.long)) (omega arith) in
     omega (arith, q.long, long, inner, h.order, h.end.0)
 
-expects_within : (text : List ℕ) (all : List Token) → All (Stands text) all → {what : Expected} {found : Kind}
-    {s e : ℕ} → Expects text all what found s e → (s ≤ e) × (e ≤ length text)
-expects_within text all h (for_long {i} lt large) = token_within text all i h lt
-expects_within text all h (for_escape {i} b lt is refused) =
+expects_within : (source : Tokenized) → All (Stands source.text) source.tokens → {what : Expected} {found : Kind}
+    {s e : ℕ} → Expects source what found s e → (s ≤ e) × (e ≤ length source.text)
+expects_within source h (for_long {i} lt large) = token_within source i h lt
+expects_within source h (for_escape {i} b lt is refused) =
     let bound = there_bound refused in
-    let inside = inside_bound text (token_at all i) (token_stands text all i lt h) is in
+    let inside = inside_bound source.text (token_at source.tokens i) (token_stands source i lt h) is in
     (bound.0, omega (arith, bound.1, inside))
-expects_within text all h (for_one_argument {i} lt is) = token_within text all i h lt
-expects_within text all h (for_no_argument {i} lt is) = token_within text all i h lt
-expects_within text all h for_steps = (omega arith, omega arith)
+expects_within source h (for_one_argument {i} lt is) = token_within source i h lt
+expects_within source h (for_no_argument {i} lt is) = token_within source i h lt
+expects_within source h for_steps = (omega arith, omega arith)
 
-pub refused_within : (text : List ℕ) (all : List Token) → All (Stands text) all → (r : ReadError) →
-    IsRefused text all r → IsWithin text r
-refused_within text all h error.Memory x = tt
-refused_within text all h (error.Expected what found s e) x = expects_within text all h x
-refused_within text all h (error.TooDeep n s e) x = absurd x
+pub refused_within : (source : Tokenized) → All (Stands source.text) source.tokens → (r : ReadError) →
+    IsRefused source r → IsWithin source.text r
+refused_within source h error.Memory x = tt
+refused_within source h (error.Expected what found s e) x = expects_within source h x
+refused_within source h (error.TooDeep n s e) x = absurd x
 
-step_within : (text : List ℕ) (all : List Token) → All (Stands text) all → {ts : List Tree} {w : What} (r : ReadError) →
-    IsRefusedOn text all ts w r → IsWithin text r
-step_within text all h r (by_tokens x) = refused_within text all h r x
-step_within text all h _ (by_key is again) = token_within text all _ h (again_within again)
+step_within : (source : Tokenized) → All (Stands source.text) source.tokens →
+    {ts : List Tree} {w : What} (r : ReadError) →
+    IsRefusedOn source ts w r → IsWithin source.text r
+step_within source h r (by_tokens x) = refused_within source h r x
+step_within source h _ (by_key is again) = token_within source _ h (again_within again)
 
-pub steps_within : (text : List ℕ) (all : List Token) → All (Stands text) all → {steps : List Step} (r : ReadError) →
-    AreRefused text all steps r → IsWithin text r
-steps_within text all h r (at_step x lt refused) = step_within text all h r refused
-steps_within text all h r (at_last refused) = refused_within text all h r refused
+pub steps_within : (source : Tokenized) → All (Stands source.text) source.tokens → {steps : List Step} (r : ReadError) →
+    AreRefused source steps r → IsWithin source.text r
+steps_within source h r (at_step x lt refused) = step_within source h r refused
+steps_within source h r (at_last refused) = refused_within source h r refused
 
 no_end_of : (text : List ℕ) → end_of [] ≤ length text
 unfolding token_at
 no_end_of text = omega arith
 
-end_within : (text : List ℕ) (all : List Token) → All (Stands text) all → end_of all ≤ length text
-end_within text [] h = no_end_of text
-end_within text (t ∷ ts) h = (token_within text (t ∷ ts) (length (t ∷ ts) - 1) h (omega arith)).1
+end_in : (text : List ℕ) (all : List Token) → All (Stands text) all → end_of all ≤ length text
+end_in text [] h = no_end_of text
+end_in text (t ∷ ts) h =
+    (token_within (record { text = text; tokens = t ∷ ts }) (length (t ∷ ts) - 1) h (omega arith)).1
 
-pub placed_within : (text : List ℕ) (all : List Token) → All (Stands text) all → (r : ReadError) → IsPlaced all r →
-    IsWithin text r
-placed_within text all h _ for_memory = tt
-placed_within text all h _ (at_token {i} what lt) = token_within text all i h lt
-placed_within text all h _ at_end = (omega arith, end_within text all h)
-placed_within text all h _ (up_to_token {i} lt le) = (le, (token_within text all i h lt).1)
+end_within : (source : Tokenized) → All (Stands source.text) source.tokens → end_of source.tokens ≤ length source.text
+end_within source h = end_in source.text source.tokens h
+
+pub placed_within : (source : Tokenized) → All (Stands source.text) source.tokens → (r : ReadError) →
+    IsPlaced source.tokens r →
+    IsWithin source.text r
+placed_within source h _ for_memory = tt
+placed_within source h _ (at_token {i} what lt) = token_within source i h lt
+placed_within source h _ at_end = (omega arith, end_within source h)
+placed_within source h _ (up_to_token {i} lt le) = (le, (token_within source i h lt).1)
 
 -- ---- trees
 
@@ -155,39 +166,42 @@ inside_more a b c d (field i p s e) le me (x, y, z) = (omega (arith, le, x), ome
 inside_more a b c d (bracketed k ps s e) le me (x, y, z, u) = (omega (arith, le, x), omega (arith, me, y), z, u)
 
 -- what the steps make is what the text says
-pub whole_read : {k : Knowledge} {text : List ℕ} {all : List Token} {limit : ℕ} {ts : List Tree} {x : Expr} →
-    IsTokens 0 text all → All (Stands text) all → HasRead all limit ts → EachCallsKnown k text all ts →
-    IsOnly text all ts x → IsRead k text limit x
-whole_read {k} {text} {all} tokens h (has_read {p} derived low nested) known (only is) =
+pub whole_read : {k : Knowledge} {source : Tokenized} {limit : ℕ} {ts : List Tree} {x : Expr} →
+    IsTokens 0 source.text source.tokens → All (Stands source.text) source.tokens → HasRead source.tokens limit ts →
+    EachCallsKnown k source ts →
+    IsOnly source ts x → IsRead k source.text limit x
+whole_read {k} {source} tokens h (has_read {p} derived low nested) known (only is) =
     is_read tokens derived low
-    (inside_more 0 (start_at all 0) (end_of all) (length text) p (omega arith) (end_within text all h)
+    (inside_more 0 (start_at source.tokens 0) (end_of source.tokens) (length source.text) p (omega arith)
+    (end_within source h)
     (nested (in_order tokens))) is known.0
 
 -- what the steps refuse
-pub whole_refused : {text : List ℕ} {all : List Token} {limit : ℕ} {steps : List Step} {r : ReadError} →
-    IsTokens 0 text all → HasRead all limit (trees steps) → AreRefused text all steps r → IsUnread text r
-whole_refused {text} {all} {limit} {steps} {r} tokens h refused = at (trees steps) refl h
+pub whole_refused : {source : Tokenized} {limit : ℕ} {steps : List Step} {r : ReadError} →
+    IsTokens 0 source.text source.tokens → HasRead source.tokens limit (trees steps) → AreRefused source steps r →
+    IsUnread source.text r
+whole_refused {source} {limit} {steps} {r} tokens h refused = at (trees steps) refl h
   where
-    at : (ts : List Tree) → trees steps ≡ ts → HasRead all limit ts → IsUnread text r
+    at : (ts : List Tree) → trees steps ≡ ts → HasRead source.tokens limit ts → IsUnread source.text r
     at _ is (has_read derived low nested) = in_step tokens derived is refused
 
 -- ---- the last parts
 
-pub only_read : {text : List ℕ} {all : List Token} {x : Expr} {xs : List Part} {ts : List Tree} →
-    xs ≡ unkeyed x ∷ [] → Are text all xs ts → IsOnly text all ts x
-only_read {text} {all} {x} {xs} {ts} is h = at ts (subst (λ vs. Are text all vs ts) is h)
+pub only_read : {source : Tokenized} {x : Expr} {xs : List Part} {ts : List Tree} →
+    xs ≡ unkeyed x ∷ [] → Are source xs ts → IsOnly source ts x
+only_read {source} {x} {xs} {ts} is h = at ts (subst (λ vs. Are source vs ts) is h)
   where
-    at : (us : List Tree) → Are text all (unkeyed x ∷ []) us → IsOnly text all us x
+    at : (us : List Tree) → Are source (unkeyed x ∷ []) us → IsOnly source us x
     at _ (one_more (is_whole part) no_more) = only part
 
-pub four_read : {text : List ℕ} {all : List Token} {f : Four} {xs : List Part} {ts : List Tree} →
+pub four_read : {source : Tokenized} {f : Four} {xs : List Part} {ts : List Tree} →
     xs ≡ unkeyed f.condition ∷ unkeyed f.resource ∷ unkeyed f.action ∷ unkeyed f.principal ∷ [] →
-    Are text all xs ts → AreFour text all ts f
-four_read {text} {all} {f} {xs} {ts} is h = at ts (subst (λ vs. Are text all vs ts) is h)
+    Are source xs ts → AreFour source ts f
+four_read {source} {f} {xs} {ts} is h = at ts (subst (λ vs. Are source vs ts) is h)
   where
     at : (us : List Tree) →
-        Are text all (unkeyed f.condition ∷ unkeyed f.resource ∷ unkeyed f.action ∷ unkeyed f.principal ∷ []) us →
-        AreFour text all us f
+        Are source (unkeyed f.condition ∷ unkeyed f.resource ∷ unkeyed f.action ∷ unkeyed f.principal ∷ []) us →
+        AreFour source us f
     at _ (one_more (is_whole c) (one_more (is_whole r) (one_more (is_whole a) (one_more (is_whole p) no_more)))) =
         four p a r c
 

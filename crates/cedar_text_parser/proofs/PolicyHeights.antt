@@ -20,6 +20,7 @@ use Rattle.cedar_text_parser.proofs.Heights.{low}
 use Rattle.cedar_text_parser.specs.PolicyHeights.{with_scope, IsNoHigher, AreAllNoHigher}
 use Rattle.cedar_text_parser.specs.PolicyReading.{IsPolicyAt, ArePolicies, no_policies, policy_behind}
 use Rattle.cedar_text_parser.specs.PolicyReading.{template_behind, AreAllRead}
+use Rattle.cedar_text_parser.specs.Sources.{Tokenized}
 use Rattle.cedar_text_parser.specs.declared.policies.ParsedPolicies.{ParsedPolicies}
 
 -- ---- scopes
@@ -87,8 +88,8 @@ joined_low : (limit p a r c : ℕ) → p ≤ 3 → a ≤ 3 → r ≤ 3 → c ≤
     suc (max (suc (max (suc (max p a)) r)) c) ≤ with_scope limit
 joined_low limit p a r c f g h k = omega arith
 
-pub policy_low : {k : Knowledge} {text : List ℕ} {all : List Token} {limit i j : ℕ} {name : List ℕ} (p : Policy) →
-    IsPolicyAt k text all limit name i j p → IsNoHigher (with_scope limit) p
+pub policy_low : {k : Knowledge} {source : Tokenized} {limit i j : ℕ} {name : List ℕ} (p : Policy) →
+    IsPolicyAt k source limit name i j p → IsNoHigher (with_scope limit) p
 policy_low {limit = limit} p is =
     let s = tree_low is.tree is.derives in
     let of_principal = low (policy_parts p).principal is.tree.principal is.principal in
@@ -115,8 +116,8 @@ record AreBothLow (ps ts : List Policy) (n : ℕ) : Type 0 where
   of_policies : AreLow ps n
   of_templates : AreLow ts n
 
-policies_low : {k : Knowledge} {text : List ℕ} {all : List Token} {limit i n : ℕ} {ps ts : List Policy} →
-    ArePolicies k text all limit i n ps ts → AreBothLow ps ts (with_scope limit)
+policies_low : {k : Knowledge} {source : Tokenized} {limit i n : ℕ} {ps ts : List Policy} →
+    ArePolicies k source limit i n ps ts → AreBothLow ps ts (with_scope limit)
 policies_low no_policies = record { of_policies = tt; of_templates = tt }
 policies_low {limit = limit} (policy_behind {ps = ps} {p = p} are is without) =
     let h = policies_low are in

@@ -1,6 +1,5 @@
 -- A policy's condition calls known functions alone, where the trees that it is read of do.
 use Rattle.std.proofs.Common.{ℕ, List, [], ◌∷◌, ◌++◌, map}
-use Rattle.cedar_text_lexer.specs.declared.tokens.Token.{Token}
 use Rattle.cedar_layers.specs.Policies.{policy_view, policy_parts, decides_as}
 use Rattle.cedar_layers.specs.declared.policies.policy.Policy.{Policy}
 use Rattle.cedar_functions.specs.Functions.{Knowledge}
@@ -8,10 +7,11 @@ use Rattle.cedar_text_parser.proofs.TermCalls.{stays_known}
 use Rattle.cedar_text_parser.specs.PolicyReading.{IsPolicyAt, ArePolicies, no_policies, policy_behind}
 use Rattle.cedar_text_parser.specs.PolicyReading.{template_behind, AreAllRead}
 use Rattle.cedar_text_parser.specs.PolicyTermCalls.{ConditionCallsAreKnown, CallsOfPoliciesAreKnown, AreAllCallsKnown}
+use Rattle.cedar_text_parser.specs.Sources.{Tokenized}
 use Rattle.cedar_text_parser.specs.declared.policies.ParsedPolicies.{ParsedPolicies}
 
-pub policy_known : (k : Knowledge) {text : List ℕ} {all : List Token} {limit i j : ℕ} {name : List ℕ} (p : Policy) →
-    IsPolicyAt k text all limit name i j p → ConditionCallsAreKnown k p
+pub policy_known : (k : Knowledge) {source : Tokenized} {limit i j : ℕ} {name : List ℕ} (p : Policy) →
+    IsPolicyAt k source limit name i j p → ConditionCallsAreKnown k p
 policy_known k p is =
     let of_principal = stays_known k (policy_parts p).principal is.tree.principal is.principal is.calls.principal in
     let of_action = stays_known k (policy_parts p).action is.tree.action is.action is.calls.action in
@@ -34,8 +34,8 @@ record AreBothKnown (k : Knowledge) (ps ts : List Policy) : Type 0 where
   of_policies : AreKnown k ps
   of_templates : AreKnown k ts
 
-policies_known : (k : Knowledge) {text : List ℕ} {all : List Token} {limit i n : ℕ} {ps ts : List Policy} →
-    ArePolicies k text all limit i n ps ts → AreBothKnown k ps ts
+policies_known : (k : Knowledge) {source : Tokenized} {limit i n : ℕ} {ps ts : List Policy} →
+    ArePolicies k source limit i n ps ts → AreBothKnown k ps ts
 policies_known k no_policies = record { of_policies = tt; of_templates = tt }
 policies_known k (policy_behind {ps = ps} {p = p} are is without) =
     let h = policies_known k are in

@@ -21,6 +21,7 @@ use Rattle.cedar_text_syntax.specs.declared.policies.Annotation.{Annotation}
 use Rattle.cedar_text_syntax.specs.declared.policies.PolicySteps.{PolicySteps}
 use Rattle.cedar_functions.specs.Functions.{Knowledge}
 use Rattle.cedar_text_parser.specs.Calls.{EachCallsKnown}
+use Rattle.cedar_text_parser.specs.Sources.{Tokenized}
 use Rattle.cedar_text_parser.specs.declared.errors.ParseError.{ParseError}
 use Rattle.cedar_text_parser.specs.Building.{Is}
 use Rattle.cedar_text_parser.specs.Reading.{AreFour, four, IsPlaceWithin}
@@ -33,10 +34,11 @@ use Rattle.cedar_layers.specs.declared.policies.policy.Effect.{Effect}
 use Rattle.cedar_layers.proofs.Slots.{slots_view-empty}
 use Rattle.cedar_text_lexer.specs.Values.{word_of}
 
-pub one_annotated : {text : List ℕ} {all : List Token} {xs : List Annotation} {es fs : Annotated} {t : Token}
-    (x : Annotation) (key value : RcStr Global) → t ≡ token_at all x.key → rc_str_bytes key ≡ word_of text t →
-    is_there key es ≡ false → IsValueAt text all x.value (rc_str_bytes value) →
-    fs ≡ insert_entry key_order es key value → AreAnnotated text all xs es → AreAnnotated text all (xs ++ x ∷ []) fs
+pub one_annotated : {source : Tokenized} {xs : List Annotation} {es fs : Annotated} {t : Token}
+    (x : Annotation) (key value : RcStr Global) → t ≡ token_at source.tokens x.key →
+    rc_str_bytes key ≡ word_of source.text t →
+    is_there key es ≡ false → IsValueAt source x.value (rc_str_bytes value) →
+    fs ≡ insert_entry key_order es key value → AreAnnotated source xs es → AreAnnotated source (xs ++ x ∷ []) fs
 one_annotated x key value t_is k_is fresh v f_is h =
     rw f_is (annotated_behind x key value h (rw t_is at k_is) v fresh)
 
@@ -52,27 +54,27 @@ tree_of {out = out} h =
       condition = h.condition;
     }
 
-record AreTheirs (text : List ℕ) (all : List Token) (p a r c : Tree) (x : Four) : Type 0 where
-  of_principal : Is text all x.principal p
-  of_action : Is text all x.action a
-  of_resource : Is text all x.resource r
-  of_condition : Is text all x.condition c
+record AreTheirs (source : Tokenized) (p a r c : Tree) (x : Four) : Type 0 where
+  of_principal : Is source x.principal p
+  of_action : Is source x.action a
+  of_resource : Is source x.resource r
+  of_condition : Is source x.condition c
 
-theirs : {text : List ℕ} {all : List Token} {p a r c : Tree} {x : Four} →
-    AreFour text all (c ∷ r ∷ a ∷ p ∷ []) x → AreTheirs text all p a r c x
+theirs : {source : Tokenized} {p a r c : Tree} {x : Four} →
+    AreFour source (c ∷ r ∷ a ∷ p ∷ []) x → AreTheirs source p a r c x
 theirs (four w x y z) = record { of_principal = w; of_action = x; of_resource = y; of_condition = z }
 
-pub policy_made : {text : List ℕ} {all : List Token} {i limit j : ℕ} {out : PolicySteps} {x : Four} {a : Annotations}
-    {id : PolicyID} {loc : Loc} {p : Policy} {k : Knowledge} → HasPolicy all i limit out →
-    AreFour text all (trees out.steps.items) x →
-    AreAnnotated text all out.annotations.items a.0.entries → IsMadeOf out.permits id a x loc p →
-    EachCallsKnown k text all (trees out.steps.items) →
+pub policy_made : {source : Tokenized} {i limit j : ℕ} {out : PolicySteps} {x : Four} {a : Annotations}
+    {id : PolicyID} {loc : Loc} {p : Policy} {k : Knowledge} → HasPolicy source.tokens i limit out →
+    AreFour source (trees out.steps.items) x →
+    AreAnnotated source out.annotations.items a.0.entries → IsMadeOf out.permits id a x loc p →
+    EachCallsKnown k source (trees out.steps.items) →
     loc ≡ record { start = out.start; end = out.end } → j ≡ out.next →
-    IsPolicyAt k text all limit (policy_id_text id) i j p
-policy_made {text = text} {all = all} {i = i} {out = out} {x = x} {a = a} {p = p} {k = k} h f xs m known loc_is j_is =
-    let calls : EachCallsKnown k text all (h.condition ∷ h.resource ∷ h.action ∷ h.principal ∷ []) =
-    subst (λ ts. EachCallsKnown k text all ts) h.makes known in
-    let g = theirs (subst (λ ts. AreFour text all ts x) h.makes f) in
+    IsPolicyAt k source limit (policy_id_text id) i j p
+policy_made {source = source} {i = i} {out = out} {x = x} {a = a} {p = p} {k = k} h f xs m known loc_is j_is =
+    let calls : EachCallsKnown k source (h.condition ∷ h.resource ∷ h.action ∷ h.principal ∷ []) =
+    subst (λ ts. EachCallsKnown k source ts) h.makes known in
+    let g = theirs (subst (λ ts. AreFour source ts x) h.makes f) in
     let parts = m.parts in
     record {
       last = h.last;
@@ -86,13 +88,13 @@ policy_made {text = text} {all = all} {i = i} {out = out} {x = x} {a = a} {p = p
       effect = m.effect;
       are_annotations = xs;
       annotations = m.annotations;
-      principal = subst (λ (q : ConditionParts). Is text all q.principal h.principal) (sym parts) g.of_principal;
-      action = subst (λ (q : ConditionParts). Is text all q.action h.action) (sym parts) g.of_action;
-      resource = subst (λ (q : ConditionParts). Is text all q.resource h.resource) (sym parts) g.of_resource;
-      condition = subst (λ (q : ConditionParts). Is text all q.when h.condition) (sym parts) g.of_condition;
+      principal = subst (λ (q : ConditionParts). Is source q.principal h.principal) (sym parts) g.of_principal;
+      action = subst (λ (q : ConditionParts). Is source q.action h.action) (sym parts) g.of_action;
+      resource = subst (λ (q : ConditionParts). Is source q.resource h.resource) (sym parts) g.of_resource;
+      condition = subst (λ (q : ConditionParts). Is source q.when h.condition) (sym parts) g.of_condition;
       slots = m.slots;
       loc = m.loc ∙ ap (λ l. Some l) loc_is ∙ ap (λ s. Some (record { start = s; end = out.end })) h.start
-          ∙ ap (λ e. Some (record { start = start_at all i; end = e })) h.end;
+          ∙ ap (λ e. Some (record { start = start_at source.tokens i; end = e })) h.end;
       calls = record {
         principal = calls.1.1.1.0;
         action = calls.1.1.0;
@@ -101,16 +103,16 @@ policy_made {text = text} {all = all} {i = i} {out = out} {x = x} {a = a} {p = p
       };
     }
 
-pub policy_put : {k : Knowledge} {text : List ℕ} {all : List Token} {limit i j n : ℕ} {ps qs ts : List Policy}
+pub policy_put : {k : Knowledge} {source : Tokenized} {limit i j n : ℕ} {ps qs ts : List Policy}
     {p : Policy} →
-    IsPolicyAt k text all limit (id_of n) i j p → HasNoSlot all i j → qs ≡ ps ++ p ∷ [] →
-    ArePolicies k text all limit i n ps ts → ArePolicies k text all limit j (n + 1) qs ts
+    IsPolicyAt k source limit (id_of n) i j p → HasNoSlot source.tokens i j → qs ≡ ps ++ p ∷ [] →
+    ArePolicies k source limit i n ps ts → ArePolicies k source limit j (n + 1) qs ts
 policy_put there without q_is h = rw q_is (policy_behind h there without)
 
-pub template_put : {k : Knowledge} {text : List ℕ} {all : List Token} {limit i j n : ℕ} {ps ts us : List Policy}
+pub template_put : {k : Knowledge} {source : Tokenized} {limit i j n : ℕ} {ps ts us : List Policy}
     {p : Policy} →
-    IsPolicyAt k text all limit (id_of n) i j p → HasSlot all i j → us ≡ ts ++ p ∷ [] →
-    ArePolicies k text all limit i n ps ts → ArePolicies k text all limit j (n + 1) ps us
+    IsPolicyAt k source limit (id_of n) i j p → HasSlot source.tokens i j → us ≡ ts ++ p ∷ [] →
+    ArePolicies k source limit i n ps ts → ArePolicies k source limit j (n + 1) ps us
 template_put there slot u_is h = rw u_is (template_behind h there slot)
 
 not_empty : {A : Type 0} (xs : List A) (x : A) → xs ++ x ∷ [] ≡ [] → ⊥

@@ -10,7 +10,6 @@ use Rattle.std.specs.declared.cmp.Ordering.{Ordering}
 use Rattle.std.specs.declared.cmp.Ordering.TheVariants.{Less, Equal, Greater}
 use Rattle.std.specs.declared.rc.RcStr.{RcStr}
 use Rattle.cedar_model.specs.Terms.{Text, Term, Fields, no_fields, one_field}
-use Rattle.cedar_text_lexer.specs.declared.tokens.Token.{Token}
 use Rattle.cedar_names.specs.declared.names.CallStyle.{CallStyle}
 use Rattle.cedar_names.specs.declared.names.CallStyle.TheVariants.{FunctionStyle, MethodStyle}
 use Rattle.cedar_names.specs.declared.names.SlotId.{SlotId}
@@ -44,6 +43,7 @@ use Rattle.cedar_text_parser.specs.Building.{AreFields, no_field, field_behind}
 use Rattle.cedar_text_parser.specs.Calls.{method_callee, IsKnownCallee, IsKnownCall, CallsAreKnown}
 use Rattle.cedar_text_parser.specs.Calls.{AllCallsAreKnown}
 use Rattle.cedar_text_parser.specs.Reading.{IsRead, is_read}
+use Rattle.cedar_text_parser.specs.Sources.{Tokenized}
 use Rattle.cedar_text_parser.specs.TermCalls.{number_of, Takes, TermCallsAreKnown, CallsOfEachAreKnown, CallsOfFieldsAreKnown}
 use Rattle.cedar_text_parser.specs.Wording.{method_of, word_at, spelled}
 use Rattle.cedar_text_parser.specs.declared.words.MethodKind.{MethodKind}
@@ -80,70 +80,70 @@ slot_known : (k : Knowledge) (o : Option SlotId) (n : Node) → option_map node.
 slot_known k None n is = absurd (cc)
 slot_known k (Some s) n is = as_node k (sym (same_Some (node.Slot s) n is)) tt
 
-text_known : (k : Knowledge) {text : List ℕ} {all : List Token} {i : ℕ} (n : Node) → IsText text all i n →
+text_known : (k : Knowledge) {source : Tokenized} {i : ℕ} (n : Node) → IsText source i n →
     NodeKnown k n
 text_known k _ (text_node at) = tt
 
-entity_known : (k : Knowledge) {text : List ℕ} {all : List Token} {i j s e : ℕ} (n : Node) →
-    IsEntity text all i j s e n → NodeKnown k n
+entity_known : (k : Knowledge) {source : Tokenized} {i j s e : ℕ} (n : Node) →
+    IsEntity source i j s e n → NodeKnown k n
 entity_known k _ (entity_node at) = tt
 
-leaf_known : (k : Knowledge) (text : List ℕ) (all : List Token) (s e : ℕ) (l : Leaf) (n : Node) →
-    IsLeaf text all l s e n → NodeKnown k n
-leaf_known k text all s e (leaves.Bool b) n is = as_node k is tt
-leaf_known k text all s e (leaves.Long i) n is = as_node k is tt
-leaf_known k text all s e (leaves.NegativeLong i) n is = as_node k is tt
-leaf_known k text all s e (leaves.Text i) n is = text_known k n is
-leaf_known k text all s e (leaves.Variable i) n is = variable_known k _ n is
-leaf_known k text all s e (leaves.Entity i j) n is = entity_known k n is
-leaf_known k text all s e (leaves.Slot i) n is = slot_known k _ n is
+leaf_known : (k : Knowledge) (source : Tokenized) (s e : ℕ) (l : Leaf) (n : Node) →
+    IsLeaf source l s e n → NodeKnown k n
+leaf_known k source s e (leaves.Bool b) n is = as_node k is tt
+leaf_known k source s e (leaves.Long i) n is = as_node k is tt
+leaf_known k source s e (leaves.NegativeLong i) n is = as_node k is tt
+leaf_known k source s e (leaves.Text i) n is = text_known k n is
+leaf_known k source s e (leaves.Variable i) n is = variable_known k _ n is
+leaf_known k source s e (leaves.Entity i j) n is = entity_known k n is
+leaf_known k source s e (leaves.Slot i) n is = slot_known k _ n is
 
-attribute_known : (k : Knowledge) {text : List ℕ} {all : List Token} {i : ℕ} {y : Expr} (n : Node) →
-    IsAttribute text all i y n → ExprKnown k y → NodeKnown k n
+attribute_known : (k : Knowledge) {source : Tokenized} {i : ℕ} {y : Expr} (n : Node) →
+    IsAttribute source i y n → ExprKnown k y → NodeKnown k n
 attribute_known k _ (attribute_node at) h = h
 
-has_known : (k : Knowledge) {text : List ℕ} {all : List Token} {i j : ℕ} {y : Expr} (n : Node) →
-    IsHas text all i j y n → ExprKnown k y → NodeKnown k n
+has_known : (k : Knowledge) {source : Tokenized} {i j : ℕ} {y : Expr} (n : Node) →
+    IsHas source i j y n → ExprKnown k y → NodeKnown k n
 has_known k _ (has_one at) h = h
 has_known k _ (has_more at more) h = h
 
-like_known : (k : Knowledge) {text : List ℕ} {all : List Token} {i : ℕ} {y : Expr} (n : Node) →
-    IsLike text all i y n → ExprKnown k y → NodeKnown k n
+like_known : (k : Knowledge) {source : Tokenized} {i : ℕ} {y : Expr} (n : Node) →
+    IsLike source i y n → ExprKnown k y → NodeKnown k n
 like_known k _ (like_node at) h = h
 
-type_known : (k : Knowledge) {text : List ℕ} {all : List Token} {i j : ℕ} {y : Expr} (n : Node) →
-    IsOfType text all i j y n → ExprKnown k y → NodeKnown k n
+type_known : (k : Knowledge) {source : Tokenized} {i j : ℕ} {y : Expr} (n : Node) →
+    IsOfType source i j y n → ExprKnown k y → NodeKnown k n
 type_known k _ (type_node at) h = h
 
-unary_known : (k : Knowledge) (text : List ℕ) (all : List Token) (y : Expr) (u : Unary) (n : Node) →
-    IsUnary text all u y n → ExprKnown k y → NodeKnown k n
-unary_known k text all y (unaries.Sign Not) n is h = as_node k is h
-unary_known k text all y (unaries.Sign Neg) n is h = as_node k is h
-unary_known k text all y (unaries.Attribute i) n is h = attribute_known k n is h
-unary_known k text all y (unaries.Has i j) n is h = has_known k n is h
-unary_known k text all y (unaries.Like i) n is h = like_known k n is h
-unary_known k text all y (unaries.Is i j) n is h = type_known k n is h
+unary_known : (k : Knowledge) (source : Tokenized) (y : Expr) (u : Unary) (n : Node) →
+    IsUnary source u y n → ExprKnown k y → NodeKnown k n
+unary_known k source y (unaries.Sign Not) n is h = as_node k is h
+unary_known k source y (unaries.Sign Neg) n is h = as_node k is h
+unary_known k source y (unaries.Attribute i) n is h = attribute_known k n is h
+unary_known k source y (unaries.Has i j) n is h = has_known k n is h
+unary_known k source y (unaries.Like i) n is h = like_known k n is h
+unary_known k source y (unaries.Is i j) n is h = type_known k n is h
 
 -- `y is T && y in z`: the second `y` is a copy of the first
-type_in_known : (k : Knowledge) {text : List ℕ} {all : List Token} {i j : ℕ} {y z : Expr} {s e : ℕ} (n : Node) →
-    IsOfTypeIn text all i j y z s e n → ExprKnown k y → ExprKnown k z → NodeKnown k n
+type_in_known : (k : Knowledge) {source : Tokenized} {i j : ℕ} {y z : Expr} {s e : ℕ} (n : Node) →
+    IsOfTypeIn source i j y z s e n → ExprKnown k y → ExprKnown k z → NodeKnown k n
 type_in_known k {z = z} _ (type_in_node {p = p} {q = q} {x = x} of_type at_p copy relation at_q) h g = (
   by_node k p (type_known k (node_of p) of_type h),
   by_node k q (as_node k relation (subst (λ t. TermCallsAreKnown k t) (sym copy.same_view) h, g)),
 )
 
-binary_known : (k : Knowledge) (text : List ℕ) (all : List Token) (y z : Expr) (s e : ℕ) (b : Binary) (n : Node) →
-    IsBinary text all b y z s e n → ExprKnown k y → ExprKnown k z → NodeKnown k n
-binary_known k text all y z s e binaries.Or n is h g = as_node k is (h, g)
-binary_known k text all y z s e binaries.And n is h g = as_node k is (h, g)
-binary_known k text all y z s e binaries.Equal n is h g = as_node k is (h, g)
-binary_known k text all y z s e binaries.Less n is h g = as_node k is (h, g)
-binary_known k text all y z s e binaries.LessEqual n is h g = as_node k is (h, g)
-binary_known k text all y z s e binaries.In n is h g = as_node k is (h, g)
-binary_known k text all y z s e binaries.Add n is h g = as_node k is (h, g)
-binary_known k text all y z s e binaries.Sub n is h g = as_node k is (h, g)
-binary_known k text all y z s e binaries.Mul n is h g = as_node k is (h, g)
-binary_known k text all y z s e (binaries.IsIn i j) n is h g = type_in_known k n is h g
+binary_known : (k : Knowledge) (source : Tokenized) (y z : Expr) (s e : ℕ) (b : Binary) (n : Node) →
+    IsBinary source b y z s e n → ExprKnown k y → ExprKnown k z → NodeKnown k n
+binary_known k source y z s e binaries.Or n is h g = as_node k is (h, g)
+binary_known k source y z s e binaries.And n is h g = as_node k is (h, g)
+binary_known k source y z s e binaries.Equal n is h g = as_node k is (h, g)
+binary_known k source y z s e binaries.Less n is h g = as_node k is (h, g)
+binary_known k source y z s e binaries.LessEqual n is h g = as_node k is (h, g)
+binary_known k source y z s e binaries.In n is h g = as_node k is (h, g)
+binary_known k source y z s e binaries.Add n is h g = as_node k is (h, g)
+binary_known k source y z s e binaries.Sub n is h g = as_node k is (h, g)
+binary_known k source y z s e binaries.Mul n is h g = as_node k is (h, g)
+binary_known k source y z s e (binaries.IsIn i j) n is h g = type_in_known k n is h g
 
 -- ---- parts in brackets
 
@@ -153,8 +153,8 @@ fitting_takes known.Any s n h = tt
 fitting_takes (known.Function t m) s n h = h.1
 fitting_takes known.Nothing s n h = h
 
-call_known : (k : Knowledge) {text : List ℕ} {all : List Token} {i j : ℕ} {ys : List Expr} (s : CallStyle)
-    (n : Node) → IsCall text all i j ys n → IsKnown k s (spelled text all i (j - i)) (number_of (terms_view ys)) →
+call_known : (k : Knowledge) {source : Tokenized} {i j : ℕ} {ys : List Expr} (s : CallStyle)
+    (n : Node) → IsCall source i j ys n → IsKnown k s (spelled source i (j - i)) (number_of (terms_view ys)) →
     AllKnown k ys → NodeKnown k n
 call_known k {ys = ys} s _ (call_node {f = f} at) fits h = (
   subst (λ w. Takes (known_of k w) (number_of (terms_view ys))) (sym at.spelling)
@@ -169,21 +169,21 @@ operation_known k _ _ operation h = (h.0, h.1.0)
 emptiness_known : (k : Knowledge) (ys : List Expr) (n : Node) → IsEmptiness ys n → AllKnown k ys → NodeKnown k n
 emptiness_known k _ _ emptiness h = h.0
 
-method_known : (k : Knowledge) (text : List ℕ) (all : List Token) (i : ℕ) (m : MethodKind) (ys : List Expr)
-    (n : Node) → IsMethod text all i m ys n → IsKnownCallee k (method_callee text all i m) (number_of (terms_view ys)) →
+method_known : (k : Knowledge) (source : Tokenized) (i : ℕ) (m : MethodKind) (ys : List Expr)
+    (n : Node) → IsMethod source i m ys n → IsKnownCallee k (method_callee source i m) (number_of (terms_view ys)) →
     AllKnown k ys → NodeKnown k n
-method_known k text all i (methods.Operator op) ys n is fits h = operation_known k ys n is h
-method_known k text all i methods.IsEmpty ys n is fits h = emptiness_known k ys n is h
-method_known k text all i methods.Function ys n is fits h = call_known k MethodStyle n is fits h
+method_known k source i (methods.Operator op) ys n is fits h = operation_known k ys n is h
+method_known k source i methods.IsEmpty ys n is fits h = emptiness_known k ys n is h
+method_known k source i methods.Function ys n is fits h = call_known k MethodStyle n is fits h
 
-bracketed_known : (k : Knowledge) (text : List ℕ) (all : List Token) (b : Bracketed) (ys : List Expr) (n : Node) →
-    IsBracketed text all b ys n → IsKnownCall k text all b (number_of (terms_view ys)) → AllKnown k ys →
+bracketed_known : (k : Knowledge) (source : Tokenized) (b : Bracketed) (ys : List Expr) (n : Node) →
+    IsBracketed source b ys n → IsKnownCall k source b (number_of (terms_view ys)) → AllKnown k ys →
     NodeKnown k n
-bracketed_known k text all Set ys n is fits h = as_node k is h
-bracketed_known k text all Record ys n is fits h = absurd is
-bracketed_known k text all (Call i j) ys n is fits h = call_known k FunctionStyle n is fits h
-bracketed_known k text all (Method i) ys n is fits h =
-    method_known k text all i (method_of (word_at text all i)) ys n is fits h
+bracketed_known k source Set ys n is fits h = as_node k is h
+bracketed_known k source Record ys n is fits h = absurd is
+bracketed_known k source (Call i j) ys n is fits h = call_known k FunctionStyle n is fits h
+bracketed_known k source (Method i) ys n is fits h =
+    method_known k source i (method_of (word_at source i)) ys n is fits h
 
 -- a part more, behind the others
 number_behind : (ys : List Expr) (y : Expr) → number_of (terms_view (ys ++ y ∷ [])) ≡ suc (number_of (terms_view ys))
@@ -195,7 +195,7 @@ known_behind k [] y hs h = (h, tt)
 known_behind k (x ∷ ys) y hs h = (hs.0, known_behind k ys y hs.1 h)
 
 -- there are as many parts as trees
-number_known : {text : List ℕ} {all : List Token} (ys : List Expr) (ps : Trees) → AreParts text all ys ps →
+number_known : {source : Tokenized} (ys : List Expr) (ps : Trees) → AreParts source ys ps →
     number_of (terms_view ys) ≡ count ps
 number_known _ _ no_part = refl
 number_known _ _ (part_behind {ys = ys} {ps = ps} {y = y} parts part) =
@@ -239,32 +239,32 @@ field_known_behind k (f ∷ fs) key y hs h = (hs.0, field_known_behind k fs key 
 -- ---- trees
 
 mutual
-  pub stays_known : (k : Knowledge) {text : List ℕ} {all : List Token} (x : Expr) (p : Tree) → Is text all x p →
-      CallsAreKnown k text all p → ExprKnown k x
-  stays_known k {text} {all} x _ (is_leaf {l = l} {s = s} {e = e} leaf at) h =
-      by_node k x (leaf_known k text all s e l (node_of x) leaf)
-  stays_known k {text} {all} x _ (is_unary {y = y} {u = u} {p = p} part is at) h =
-      by_node k x (unary_known k text all y u (node_of x) is (stays_known k y p part h))
-  stays_known k {text} {all} x _
+  pub stays_known : (k : Knowledge) {source : Tokenized} (x : Expr) (p : Tree) → Is source x p →
+      CallsAreKnown k source p → ExprKnown k x
+  stays_known k {source} x _ (is_leaf {l = l} {s = s} {e = e} leaf at) h =
+      by_node k x (leaf_known k source s e l (node_of x) leaf)
+  stays_known k {source} x _ (is_unary {y = y} {u = u} {p = p} part is at) h =
+      by_node k x (unary_known k source y u (node_of x) is (stays_known k y p part h))
+  stays_known k {source} x _
       (is_binary {y = y} {z = z} {b = b} {p = p} {q = q} {s = s} {e = e} left right is at) h =
-      by_node k x (binary_known k text all y z s e b (node_of x) is (stays_known k y p left h.0)
+      by_node k x (binary_known k source y z s e b (node_of x) is (stays_known k y p left h.0)
       (stays_known k z q right h.1))
   stays_known k x _ (is_conditional {c = c} {y = y} {z = z} {p = p} {q = q} {r = r} test first second is at) h =
       by_node k x (as_node k is (stays_known k c p test h.0, stays_known k y q first h.1, stays_known k z r second h.2))
-  stays_known k {text} {all} x _ (is_bracketed {ys = ys} {k = b} {ps = ps} parts is at) h =
-      let fits = subst (λ m. IsKnownCall k text all b m) (sym (number_known ys ps parts)) h.0 in
-      by_node k x (bracketed_known k text all b ys (node_of x) is fits (are_known k ys ps parts h.1))
+  stays_known k {source} x _ (is_bracketed {ys = ys} {k = b} {ps = ps} parts is at) h =
+      let fits = subst (λ m. IsKnownCall k source b m) (sym (number_known ys ps parts)) h.0 in
+      by_node k x (bracketed_known k source b ys (node_of x) is fits (are_known k ys ps parts h.1))
   stays_known k x _ (is_record {fs = fs} {ps = ps} fields distinct is at) h =
       by_node k x (as_node k is (record_known k fs (fields_known k fs ps fields h.1)))
 
-  are_known : (k : Knowledge) {text : List ℕ} {all : List Token} (ys : List Expr) (ps : Trees) →
-      AreParts text all ys ps → AllCallsAreKnown k text all ps → AllKnown k ys
+  are_known : (k : Knowledge) {source : Tokenized} (ys : List Expr) (ps : Trees) →
+      AreParts source ys ps → AllCallsAreKnown k source ps → AllKnown k ys
   are_known k _ _ no_part h = tt
   are_known k _ _ (part_behind {ys = ys} {ps = ps} {y = y} {p = p} parts part) h =
       known_behind k ys y (are_known k ys ps parts h.0) (stays_known k y p part h.1)
 
-  fields_known : (k : Knowledge) {text : List ℕ} {all : List Token} (fs : List (RcStr Global × Expr)) (ps : Trees) →
-      AreFields text all fs ps → AllCallsAreKnown k text all ps → PairsKnown k (pairs_view fs)
+  fields_known : (k : Knowledge) {source : Tokenized} (fs : List (RcStr Global × Expr)) (ps : Trees) →
+      AreFields source fs ps → AllCallsAreKnown k source ps → PairsKnown k (pairs_view fs)
   fields_known k _ _ no_field h = tt
   fields_known k _ _ (field_behind {fs = fs} {ps = ps} {y = y} {p = p} key fields named part) h =
       field_known_behind k fs key y (fields_known k fs ps fields h.0) (stays_known k y p part h.1)

@@ -19,6 +19,7 @@ use Rattle.cedar_text_syntax.specs.declared.steps.Step.{Step}
 use Rattle.cedar_text_syntax.specs.declared.steps.What.{What}
 use Rattle.cedar_text_syntax.specs.declared.steps.What.TheVariants as what
 use Rattle.cedar_text_parser.specs.Refusals.{IsRefused}
+use Rattle.cedar_text_parser.specs.Sources.{Tokenized}
 use Rattle.cedar_text_parser.specs.Wording.{word_at, spelled, method_of}
 use Rattle.cedar_text_parser.specs.declared.calls.Call.{Call}
 use Rattle.cedar_text_parser.specs.declared.errors.ParseError.{ParseError}
@@ -36,22 +37,26 @@ pub record Callee : Type 0 where
   pub end : ℕ
 
 -- the function that tokens i up to k name
-abbrev pub callee_at : List ℕ → List Token → CallStyle → ℕ → ℕ → Callee
-callee_at text all style i k =
-    record { name = spelled text all i (k - i); style = style; start = start_at all i; end = end_at all (k - 1) }
+abbrev pub callee_at : Tokenized → CallStyle → ℕ → ℕ → Callee
+callee_at source style i k = record {
+  name = spelled source i (k - i);
+  style = style;
+  start = start_at source.tokens i;
+  end = end_at source.tokens (k - 1);
+}
 
 -- the function that is called as this method: the methods that are operators belong to the language
-abbrev pub method_callee : List ℕ → List Token → ℕ → MethodKind → Option Callee
-method_callee text all i (Operator op) = None
-method_callee text all i IsEmpty = None
-method_callee text all i Function = Some (callee_at text all MethodStyle i (i + 1))
+abbrev pub method_callee : Tokenized → ℕ → MethodKind → Option Callee
+method_callee source i (Operator op) = None
+method_callee source i IsEmpty = None
+method_callee source i Function = Some (callee_at source MethodStyle i (i + 1))
 
 -- the function that is called in these brackets, if they call one
-abbrev pub callee_of : List ℕ → List Token → Bracketed → Option Callee
-callee_of text all brackets.Set = None
-callee_of text all brackets.Record = None
-callee_of text all (brackets.Call i k) = Some (callee_at text all FunctionStyle i k)
-callee_of text all (brackets.Method i) = method_callee text all i (method_of (word_at text all i))
+abbrev pub callee_of : Tokenized → Bracketed → Option Callee
+callee_of source brackets.Set = None
+callee_of source brackets.Record = None
+callee_of source (brackets.Call i k) = Some (callee_at source FunctionStyle i k)
+callee_of source (brackets.Method i) = method_callee source i (method_of (word_at source i))
 
 -- the function of this name, as a call has it
 abbrev pub callee_named : Call → List ℕ → Callee
@@ -65,42 +70,42 @@ IsKnownCallee k None n = ⊤
 IsKnownCallee k (Some c) n = IsKnown k c.style c.name n
 
 -- so is the function that is called in brackets with so many parts, if they call one
-abbrev pub IsKnownCall : Knowledge → List ℕ → List Token → Bracketed → ℕ → Type 0
-IsKnownCall k text all b n = IsKnownCallee k (callee_of text all b) n
+abbrev pub IsKnownCall : Knowledge → Tokenized → Bracketed → ℕ → Type 0
+IsKnownCall k source b n = IsKnownCallee k (callee_of source b) n
 
 abbrev mutual
   -- each call in the tree is of a function that is known, in its style, with its number of arguments
-  pub CallsAreKnown : Knowledge → List ℕ → List Token → Tree → Type 0
-  CallsAreKnown k text all (leaf l s e) = ⊤
-  CallsAreKnown k text all (unary u p s e) = CallsAreKnown k text all p
-  CallsAreKnown k text all (binary b p q s e) = CallsAreKnown k text all p × CallsAreKnown k text all q
-  CallsAreKnown k text all (conditional p q r s e) =
-      CallsAreKnown k text all p × CallsAreKnown k text all q × CallsAreKnown k text all r
-  CallsAreKnown k text all (field i p s e) = CallsAreKnown k text all p
-  CallsAreKnown k text all (bracketed b ps s e) = IsKnownCall k text all b (count ps) × AllCallsAreKnown k text all ps
+  pub CallsAreKnown : Knowledge → Tokenized → Tree → Type 0
+  CallsAreKnown k source (leaf l s e) = ⊤
+  CallsAreKnown k source (unary u p s e) = CallsAreKnown k source p
+  CallsAreKnown k source (binary b p q s e) = CallsAreKnown k source p × CallsAreKnown k source q
+  CallsAreKnown k source (conditional p q r s e) =
+      CallsAreKnown k source p × CallsAreKnown k source q × CallsAreKnown k source r
+  CallsAreKnown k source (field i p s e) = CallsAreKnown k source p
+  CallsAreKnown k source (bracketed b ps s e) = IsKnownCall k source b (count ps) × AllCallsAreKnown k source ps
 
-  pub AllCallsAreKnown : Knowledge → List ℕ → List Token → Trees → Type 0
-  AllCallsAreKnown k text all none = ⊤
-  AllCallsAreKnown k text all (also ps p) = AllCallsAreKnown k text all ps × CallsAreKnown k text all p
+  pub AllCallsAreKnown : Knowledge → Tokenized → Trees → Type 0
+  AllCallsAreKnown k source none = ⊤
+  AllCallsAreKnown k source (also ps p) = AllCallsAreKnown k source ps × CallsAreKnown k source p
 
 -- the same of each of these trees
-abbrev pub EachCallsKnown : Knowledge → List ℕ → List Token → List Tree → Type 0
-EachCallsKnown k text all [] = ⊤
-EachCallsKnown k text all (p ∷ ts) = CallsAreKnown k text all p × EachCallsKnown k text all ts
+abbrev pub EachCallsKnown : Knowledge → Tokenized → List Tree → Type 0
+EachCallsKnown k source [] = ⊤
+EachCallsKnown k source (p ∷ ts) = CallsAreKnown k source p × EachCallsKnown k source ts
 
 -- the call that a step makes, if it makes one, is of a function that is known
-abbrev pub IsKnownStep : Knowledge → List ℕ → List Token → What → Type 0
-IsKnownStep k text all (what.Leaf l) = ⊤
-IsKnownStep k text all (what.Unary u) = ⊤
-IsKnownStep k text all (what.Binary b) = ⊤
-IsKnownStep k text all what.If = ⊤
-IsKnownStep k text all (what.Field i) = ⊤
-IsKnownStep k text all (what.Bracketed b n) = IsKnownCall k text all b n
+abbrev pub IsKnownStep : Knowledge → Tokenized → What → Type 0
+IsKnownStep k source (what.Leaf l) = ⊤
+IsKnownStep k source (what.Unary u) = ⊤
+IsKnownStep k source (what.Binary b) = ⊤
+IsKnownStep k source what.If = ⊤
+IsKnownStep k source (what.Field i) = ⊤
+IsKnownStep k source (what.Bracketed b n) = IsKnownCall k source b n
 
 -- so does each of these steps
-abbrev pub AreKnownSteps : Knowledge → List ℕ → List Token → List Step → Type 0
-AreKnownSteps k text all [] = ⊤
-AreKnownSteps k text all (x ∷ xs) = IsKnownStep k text all x.what × AreKnownSteps k text all xs
+abbrev pub AreKnownSteps : Knowledge → Tokenized → List Step → Type 0
+AreKnownSteps k source [] = ⊤
+AreKnownSteps k source (x ∷ xs) = IsKnownStep k source x.what × AreKnownSteps k source xs
 
 -- ---- a call is refused
 
@@ -130,13 +135,14 @@ AreNamed all (brackets.Call i k) = (i < k) × (k ≤ length all)
 AreNamed all (brackets.Method i) = i < length all
 
 -- the step is refused: the function that it calls isn't known so, or its name can't be read
-pub data IsCallRefused (k : Knowledge) (text : List ℕ) (all : List Token) (w : What) : ParseError → Type 0 where
-  by_name : {r : ReadError} → IsRefused text all r → IsCallRefused k text all w (error.Read r)
-  by_callee : {b : Bracketed} {n : ℕ} {c : Callee} {e : ParseError} → w ≡ what.Bracketed b n → AreNamed all b →
-      callee_of text all b ≡ Some c → IsWhyUnknown k c n e → IsCallRefused k text all w e
+pub data IsCallRefused (k : Knowledge) (source : Tokenized) (w : What) : ParseError → Type 0 where
+  by_name : {r : ReadError} → IsRefused source r → IsCallRefused k source w (error.Read r)
+  by_callee : {b : Bracketed} {n : ℕ} {c : Callee} {e : ParseError} → w ≡ what.Bracketed b n →
+      AreNamed source.tokens b →
+      callee_of source b ≡ Some c → IsWhyUnknown k c n e → IsCallRefused k source w e
 
 -- one of the steps is refused
-pub data AreCallsRefused (k : Knowledge) (text : List ℕ) (all : List Token) (steps : List Step)
+pub data AreCallsRefused (k : Knowledge) (source : Tokenized) (steps : List Step)
     (e : ParseError) : Type 0 where
-  at_call : {i : ℕ} (x : Step) → i < length steps → IsCallRefused k text all (slice_index_or steps i x).what e →
-      AreCallsRefused k text all steps e
+  at_call : {i : ℕ} (x : Step) → i < length steps → IsCallRefused k source (slice_index_or steps i x).what e →
+      AreCallsRefused k source steps e

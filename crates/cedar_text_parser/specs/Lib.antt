@@ -6,6 +6,7 @@ pub mod Messages
 pub mod Paths
 pub mod Reading
 pub mod Refusals
+pub mod Sources
 pub mod TermCalls
 pub mod Wording
 pub mod PolicyHeights

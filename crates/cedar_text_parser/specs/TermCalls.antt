@@ -6,7 +6,6 @@ use Rattle.cedar_model.specs.Terms.{binary, call, get_attribute, has_attribute, 
 use Rattle.cedar_model.specs.Terms.{record_of, Terms, no_terms, one_term, Fields, no_fields, one_field}
 use Rattle.cedar_expressions.specs.View.{view}
 use Rattle.cedar_expressions.specs.declared.expr.Expr.{Expr}
-use Rattle.cedar_text_lexer.specs.declared.tokens.Token.{Token}
 use Rattle.cedar_text_syntax.specs.Trees.{Tree}
 use Rattle.cedar_functions.specs.Functions.{Knowledge, known_of}
 use Rattle.cedar_functions.specs.declared.functions.Known.{Known}
@@ -14,6 +13,7 @@ use Rattle.cedar_functions.specs.declared.functions.Known.TheVariants as known
 use Rattle.cedar_text_parser.specs.Building.{Is}
 use Rattle.cedar_text_parser.specs.Calls.{CallsAreKnown}
 use Rattle.cedar_text_parser.specs.Reading.{IsRead}
+use Rattle.cedar_text_parser.specs.Sources.{Tokenized}
 
 -- how many terms there are
 abbrev pub number_of : Terms → ℕ
@@ -62,8 +62,8 @@ abbrev mutual
 -- an expression has no unknown, and calls known functions alone where the tree that it is does
 abbrev pub KnownCallsStayKnown : Type 0
 KnownCallsStayKnown =
-    (k : Knowledge) (text : List ℕ) (all : List Token) (x : Expr) (p : Tree) → Is text all x p →
-    CallsAreKnown k text all p → TermCallsAreKnown k (view x)
+    (k : Knowledge) (source : Tokenized) (x : Expr) (p : Tree) → Is source x p →
+    CallsAreKnown k source p → TermCallsAreKnown k (view x)
 
 -- so does each expression that is read
 abbrev pub WhatIsReadCallsKnown : Type 0

@@ -1,9 +1,8 @@
 //! Makes expressions of steps, on a stack of finished ones.
-ghost use Rattle.std.specs.Prelude.{◌≡◌, ◌∷◌, ◌++◌, [], true, ℕ, List, length, reverse, All, IfOk, IfErr, IfSome, OnOk};
+ghost use Rattle.std.specs.Prelude.{◌≡◌, ◌∷◌, ◌++◌, [], true, ℕ, List, length, reverse, IfOk, IfErr, IfSome, OnOk};
 ghost use Rattle.cedar_text_syntax.specs.declared.steps.Bracketed.TheVariants as bracketed;
 ghost use Rattle.cedar_text_syntax.specs.declared.steps.What.TheVariants as what;
 ghost use Rattle.std.specs.Rc.{rc_str_bytes};
-ghost use Rattle.cedar_text_lexer.specs.Values.{Stands};
 ghost use Rattle.cedar_expressions.specs.Nodes.{node_of};
 ghost use Rattle.cedar_text_syntax.specs.Trees.{Tree, trees};
 ghost use Rattle.cedar_text_parser.specs.Building.{Are, Keeps, Puts};
@@ -13,11 +12,11 @@ ghost use Rattle.cedar_text_parser.specs.Refusals.{AreRefused};
 
 use crate::reading::Four;
 use crate::refusals::{ill_made, wanted_at};
+use crate::source::Source;
 use crate::{leaves, nodes};
 use cedar_expressions::{Expr, ExpressionConstructionError};
 use cedar_names::Loc;
 use cedar_text_lexer::errors::{Expected, ReadError};
-use cedar_text_lexer::tokens::Token;
 use cedar_text_syntax::steps::{Binary, Bracketed, Leaf, Step, Unary, What};
 use std::alloc::{AllocError, Global};
 use std::rc::RcStr;
@@ -52,43 +51,41 @@ struct Fields {
 /// What the steps make.
 pub(crate) fn build_steps(
     alloc: Global,
-    text: &str,
-    tokens: &[Token],
+    source: &Source,
     steps: &[Step],
 ) -> Result<Builder, ReadError>
-    requires { All (Stands text.now) tokens.now }
-    ensures ok { IfOk result (λ b. Are text.now tokens.now (finished b) (trees steps.now)) }
-    ensures err { IfErr result (AreRefused text.now tokens.now steps.now) }
+    ensures ok { IfOk result (λ b. Are source.now (finished b) (trees steps.now)) }
+    ensures err { IfErr result (AreRefused source.now steps.now) }
 {
     let mut builder = Builder {
         parts: Vec::new(alloc),
     };
     for step in steps {
-        builder.take(alloc, text, tokens, *step)?;
+        builder.take(alloc, source, *step)?;
     }
     Ok(builder)
 }
 
 impl Builder {
     /// The only expression.
-    pub(crate) fn only(mut self, text: &str, tokens: &[Token]) -> Result<Expr, ReadError>
+    pub(crate) fn only(mut self, source: &Source) -> Result<Expr, ReadError>
         ensures ok { IfOk result (λ x. finished self ≡ unkeyed x ∷ []) }
-        ensures err { IfErr result (IsRefused text.now tokens.now) }
+        ensures err { IfErr result (IsRefused source.now) }
     {
         match self.pop() {
             Some(part) => match self.parts.pop() {
                 None => Ok(part),
-                Some(_) => Err(ill_made(text, tokens)),
+                Some(_) => Err(ill_made(source)),
             },
-            None => Err(ill_made(text, tokens)),
+            None => Err(ill_made(source)),
         }
     }
 
     /// The four expressions.
-    pub(crate) fn four(mut self, text: &str, tokens: &[Token]) -> Result<Four, ReadError>
+    pub(crate) fn four(mut self, source: &Source) -> Result<Four, ReadError>
         ensures ok { IfOk result (λ f. finished self
             ≡ unkeyed f.condition ∷ unkeyed f.resource ∷ unkeyed f.action ∷ unkeyed f.principal ∷ []) }
-        ensures err { IfErr result (IsRefused text.now tokens.now) }
+        ensures err { IfErr result (IsRefused source.now) }
     {
         match self.pop_pair() {
             Some((resource, condition)) => match self.last_pair() {
@@ -98,9 +95,9 @@ impl Builder {
                     resource,
                     condition,
                 }),
-                None => Err(ill_made(text, tokens)),
+                None => Err(ill_made(source)),
             },
-            None => Err(ill_made(text, tokens)),
+            None => Err(ill_made(source)),
         }
     }
 
@@ -178,28 +175,26 @@ impl Builder {
     pub(crate) fn take(
         &mut self,
         alloc: Global,
-        text: &str,
-        tokens: &[Token],
+        source: &Source,
         step: Step,
     ) -> Result<(), ReadError>
-        requires { All (Stands text.now) tokens.now }
         ensures ok { IfOk result
-            (λ _. Keeps text.now tokens.now step.what step.start step.end (finished self.old) (finished self.new)) }
-        ensures err { IfErr result (λ e. (ts : List Tree) → Are text.now tokens.now (finished self.old) ts →
-            IsRefusedOn text.now tokens.now ts step.what e) }
+            (λ _. Keeps source.now step.what step.start step.end (finished self.old) (finished self.new)) }
+        ensures err { IfErr result (λ e. (ts : List Tree) → Are source.now (finished self.old) ts →
+            IsRefusedOn source.now ts step.what e) }
     {
         let loc = Loc {
             start: step.start,
             end: step.end,
         };
         match step.what {
-            What::Leaf(leaf) => self.leaf(alloc, text, tokens, leaf, loc),
-            What::Unary(unary) => self.unary(alloc, text, tokens, unary, loc),
-            What::Binary(binary) => self.binary(alloc, text, tokens, binary, loc),
-            What::If => self.conditional(alloc, text, tokens, loc),
-            What::Field(at) => self.field(alloc, text, tokens, at),
+            What::Leaf(leaf) => self.leaf(alloc, source, leaf, loc),
+            What::Unary(unary) => self.unary(alloc, source, unary, loc),
+            What::Binary(binary) => self.binary(alloc, source, binary, loc),
+            What::If => self.conditional(alloc, source, loc),
+            What::Field(at) => self.field(alloc, source, at),
             What::Bracketed(bracketed, count) => {
-                self.in_brackets(alloc, text, tokens, bracketed, count, loc)
+                self.in_brackets(alloc, source, bracketed, count, loc)
             }
         }
     }
@@ -207,18 +202,16 @@ impl Builder {
     fn leaf(
         &mut self,
         alloc: Global,
-        text: &str,
-        tokens: &[Token],
+        source: &Source,
         leaf: Leaf,
         loc: Loc,
     ) -> Result<(), ReadError>
-        requires { All (Stands text.now) tokens.now }
         ensures ok { IfOk result
-            (λ _. Keeps text.now tokens.now (what.Leaf leaf) loc.start loc.end (finished self.old)
+            (λ _. Keeps source.now (what.Leaf leaf) loc.start loc.end (finished self.old)
             (finished self.new)) }
-        ensures err { IfErr result (IsRefused text.now tokens.now) }
+        ensures err { IfErr result (IsRefused source.now) }
     {
-        let made = nodes::leaf(alloc, text, tokens, leaf, loc)?;
+        let made = nodes::leaf(alloc, source, leaf, loc)?;
         self.put(made, loc)?;
         Ok(())
     }
@@ -226,61 +219,51 @@ impl Builder {
     fn unary(
         &mut self,
         alloc: Global,
-        text: &str,
-        tokens: &[Token],
+        source: &Source,
         unary: Unary,
         loc: Loc,
     ) -> Result<(), ReadError>
-        requires { All (Stands text.now) tokens.now }
         ensures ok { IfOk result
-            (λ _. Keeps text.now tokens.now (what.Unary unary) loc.start loc.end (finished self.old)
+            (λ _. Keeps source.now (what.Unary unary) loc.start loc.end (finished self.old)
             (finished self.new)) }
-        ensures err { IfErr result (IsRefused text.now tokens.now) }
+        ensures err { IfErr result (IsRefused source.now) }
     {
         match self.pop() {
             Some(part) => {
-                let made = nodes::unary(alloc, text, tokens, unary, part)?;
+                let made = nodes::unary(alloc, source, unary, part)?;
                 self.put(made, loc)?;
                 Ok(())
             }
-            None => Err(ill_made(text, tokens)),
+            None => Err(ill_made(source)),
         }
     }
 
     fn binary(
         &mut self,
         alloc: Global,
-        text: &str,
-        tokens: &[Token],
+        source: &Source,
         binary: Binary,
         loc: Loc,
     ) -> Result<(), ReadError>
-        requires { All (Stands text.now) tokens.now }
         ensures ok { IfOk result
-            (λ _. Keeps text.now tokens.now (what.Binary binary) loc.start loc.end (finished self.old)
+            (λ _. Keeps source.now (what.Binary binary) loc.start loc.end (finished self.old)
             (finished self.new)) }
-        ensures err { IfErr result (IsRefused text.now tokens.now) }
+        ensures err { IfErr result (IsRefused source.now) }
     {
         match self.pop_pair() {
             Some((left, right)) => {
-                let made = nodes::binary(alloc, text, tokens, binary, left, right, loc)?;
+                let made = nodes::binary(alloc, source, binary, left, right, loc)?;
                 self.put(made, loc)?;
                 Ok(())
             }
-            None => Err(ill_made(text, tokens)),
+            None => Err(ill_made(source)),
         }
     }
 
-    fn conditional(
-        &mut self,
-        alloc: Global,
-        text: &str,
-        tokens: &[Token],
-        loc: Loc,
-    ) -> Result<(), ReadError>
+    fn conditional(&mut self, alloc: Global, source: &Source, loc: Loc) -> Result<(), ReadError>
         ensures ok { IfOk result
-            (λ _. Keeps text.now tokens.now what.If loc.start loc.end (finished self.old) (finished self.new)) }
-        ensures err { IfErr result (IsRefused text.now tokens.now) }
+            (λ _. Keeps source.now what.If loc.start loc.end (finished self.old) (finished self.new)) }
+        ensures err { IfErr result (IsRefused source.now) }
     {
         match self.pop_triple() {
             Some((test, then, otherwise)) => {
@@ -288,75 +271,64 @@ impl Builder {
                 self.put(made, loc)?;
                 Ok(())
             }
-            None => Err(ill_made(text, tokens)),
+            None => Err(ill_made(source)),
         }
     }
 
     // Puts the latest part under the key that this token names.
-    fn field(
-        &mut self,
-        alloc: Global,
-        text: &str,
-        tokens: &[Token],
-        at: usize,
-    ) -> Result<(), ReadError>
-        requires { All (Stands text.now) tokens.now }
+    fn field(&mut self, alloc: Global, source: &Source, at: usize) -> Result<(), ReadError>
         ensures ok { IfOk result (λ _. (s e : ℕ) →
-            Keeps text.now tokens.now (what.Field at) s e (finished self.old) (finished self.new)) }
-        ensures err { IfErr result (IsRefused text.now tokens.now) }
+            Keeps source.now (what.Field at) s e (finished self.old) (finished self.new)) }
+        ensures err { IfErr result (IsRefused source.now) }
     {
         match self.pop() {
             Some(expr) => {
-                let key = leaves::key(alloc, text, tokens, at)?;
+                let key = leaves::key(alloc, source, at)?;
                 self.push(Part {
                     key: Some(Key { at, text: key }),
                     expr,
                 })?;
                 Ok(())
             }
-            None => Err(ill_made(text, tokens)),
+            None => Err(ill_made(source)),
         }
     }
 
     fn in_brackets(
         &mut self,
         alloc: Global,
-        text: &str,
-        tokens: &[Token],
+        source: &Source,
         bracketed: Bracketed,
         count: usize,
         loc: Loc,
     ) -> Result<(), ReadError>
-        requires { All (Stands text.now) tokens.now }
-        ensures ok { IfOk result (λ _. Keeps text.now tokens.now (what.Bracketed bracketed count) loc.start loc.end
+        ensures ok { IfOk result (λ _. Keeps source.now (what.Bracketed bracketed count) loc.start loc.end
             (finished self.old) (finished self.new)) }
-        ensures err { IfErr result (λ e. (ts : List Tree) → Are text.now tokens.now (finished self.old) ts →
-            IsRefusedOn text.now tokens.now ts (what.Bracketed bracketed count) e) }
+        ensures err { IfErr result (λ e. (ts : List Tree) → Are source.now (finished self.old) ts →
+            IsRefusedOn source.now ts (what.Bracketed bracketed count) e) }
     {
         match bracketed {
-            Bracketed::Record => self.record(alloc, text, tokens, count, loc),
-            Bracketed::Set => self.list(alloc, text, tokens, bracketed, count, loc),
-            Bracketed::Call(_, _) => self.list(alloc, text, tokens, bracketed, count, loc),
-            Bracketed::Method(_) => self.list(alloc, text, tokens, bracketed, count, loc),
+            Bracketed::Record => self.record(alloc, source, count, loc),
+            Bracketed::Set => self.list(alloc, source, bracketed, count, loc),
+            Bracketed::Call(_, _) => self.list(alloc, source, bracketed, count, loc),
+            Bracketed::Method(_) => self.list(alloc, source, bracketed, count, loc),
         }
     }
 
     fn list(
         &mut self,
         alloc: Global,
-        text: &str,
-        tokens: &[Token],
+        source: &Source,
         bracketed: Bracketed,
         count: usize,
         loc: Loc,
     ) -> Result<(), ReadError>
-        requires { All (Stands text.now) tokens.now }
-        ensures ok { IfOk result (λ _. Keeps text.now tokens.now (what.Bracketed bracketed count) loc.start loc.end
+        ensures ok { IfOk result (λ _. Keeps source.now (what.Bracketed bracketed count) loc.start loc.end
             (finished self.old) (finished self.new)) }
-        ensures err { IfErr result (IsRefused text.now tokens.now) }
+        ensures err { IfErr result (IsRefused source.now) }
     {
-        let parts = self.latest(alloc, text, tokens, count)?;
-        let made = nodes::make_bracketed(alloc, text, tokens, bracketed, parts)?;
+        let parts = self.latest(alloc, source, count)?;
+        let made = nodes::make_bracketed(alloc, source, bracketed, parts)?;
         self.put(made, loc)?;
         Ok(())
     }
@@ -365,20 +337,19 @@ impl Builder {
     fn latest(
         &mut self,
         alloc: Global,
-        text: &str,
-        tokens: &[Token],
+        source: &Source,
         count: usize,
     ) -> Result<Vec<Expr>, ReadError>
         ensures parts { IfOk result
             (λ xs. finished self.old ≡ all_unkeyed (reverse xs.items) ++ finished self.new) }
         ensures count { IfOk result (λ xs. length xs.items ≡ count) }
-        ensures err { IfErr result (IsRefused text.now tokens.now) }
+        ensures err { IfErr result (IsRefused source.now) }
     {
         let mut parts: Vec<Expr> = Vec::new(alloc);
         for _ in 0..count {
             match self.pop() {
                 Some(part) => parts.push(part)?,
-                None => return Err(ill_made(text, tokens)),
+                None => return Err(ill_made(source)),
             }
         }
         parts.reverse();
@@ -388,26 +359,24 @@ impl Builder {
     fn record(
         &mut self,
         alloc: Global,
-        text: &str,
-        tokens: &[Token],
+        source: &Source,
         count: usize,
         loc: Loc,
     ) -> Result<(), ReadError>
-        requires { All (Stands text.now) tokens.now }
-        ensures ok { IfOk result (λ _. Keeps text.now tokens.now
+        ensures ok { IfOk result (λ _. Keeps source.now
             (what.Bracketed bracketed.Record count) loc.start loc.end
             (finished self.old) (finished self.new)) }
-        ensures err { IfErr result (λ e. (ts : List Tree) → Are text.now tokens.now (finished self.old) ts →
-            IsRefusedOn text.now tokens.now ts (what.Bracketed bracketed.Record count) e) }
+        ensures err { IfErr result (λ e. (ts : List Tree) → Are source.now (finished self.old) ts →
+            IsRefusedOn source.now ts (what.Bracketed bracketed.Record count) e) }
     {
-        let fields = self.latest_fields(alloc, text, tokens, count)?;
+        let fields = self.latest_fields(alloc, source, count)?;
         let Fields { at, pairs } = fields;
         match Expr::record(alloc, pairs) {
             Ok(made) => {
                 self.put(made, loc)?;
                 Ok(())
             }
-            Err(error) => Err(refuse_record(alloc, text, tokens, &at, error)),
+            Err(error) => Err(refuse_record(alloc, source, &at, error)),
         }
     }
 
@@ -415,15 +384,14 @@ impl Builder {
     fn latest_fields(
         &mut self,
         alloc: Global,
-        text: &str,
-        tokens: &[Token],
+        source: &Source,
         count: usize,
     ) -> Result<Fields, ReadError>
         ensures parts { IfOk result
             (λ f. finished self.old ≡ all_keyed (reverse f.at.items) (reverse f.pairs.items) ++ finished self.new) }
         ensures count { IfOk result (λ f. length f.at.items ≡ count) }
         ensures pairs { IfOk result (λ f. length f.pairs.items ≡ count) }
-        ensures err { IfErr result (IsRefused text.now tokens.now) }
+        ensures err { IfErr result (IsRefused source.now) }
     {
         let mut tokens_of_keys: Vec<usize> = Vec::new(alloc);
         let mut pairs: Vec<(RcStr, Expr)> = Vec::new(alloc);
@@ -433,7 +401,7 @@ impl Builder {
                     tokens_of_keys.push(key.at)?;
                     pairs.push((key.text, expr))?;
                 }
-                None => return Err(ill_made(text, tokens)),
+                None => return Err(ill_made(source)),
             }
         }
         tokens_of_keys.reverse();
@@ -470,19 +438,17 @@ fn field(part: Part) -> Option<(Key, Expr)>
 // Why there is no record of fields under the keys that these tokens name.
 fn refuse_record(
     alloc: Global,
-    text: &str,
-    tokens: &[Token],
+    source: &Source,
     keys: &[usize],
     error: ExpressionConstructionError,
 ) -> ReadError
-    requires { All (Stands text.now) tokens.now }
-    ensures { IsRecordRefused text.now tokens.now keys.now result }
+    ensures { IsRecordRefused source.now keys.now result }
 {
     match error {
         ExpressionConstructionError::DuplicateKey { key, context: _ } => {
-            match key_again(alloc, text, tokens, keys, &key) {
-                Ok(Some(at)) => wanted_at(tokens, at, Expected::NewKey),
-                Ok(None) => ill_made(text, tokens),
+            match key_again(alloc, source, keys, &key) {
+                Ok(Some(at)) => wanted_at(source, at, Expected::NewKey),
+                Ok(None) => ill_made(source),
                 Err(error) => error,
             }
         }
@@ -493,17 +459,15 @@ fn refuse_record(
 // The token that is the second to name this key.
 fn key_again(
     alloc: Global,
-    text: &str,
-    tokens: &[Token],
+    source: &Source,
     keys: &[usize],
     key: &str,
 ) -> Result<Option<usize>, ReadError>
-    requires { All (Stands text.now) tokens.now }
-    ensures ok { IfOk result (λ found. IfSome found (IsKeyAgain text.now tokens.now keys.now)) }
-    ensures err { IfErr result (IsRefused text.now tokens.now) }
+    ensures ok { IfOk result (λ found. IfSome found (IsKeyAgain source.now keys.now)) }
+    ensures err { IfErr result (IsRefused source.now) }
 {
-    match named_from(alloc, text, tokens, keys, 0, key)? {
-        Some(first) => key_behind(alloc, text, tokens, keys, first, key),
+    match named_from(alloc, source, keys, 0, key)? {
+        Some(first) => key_behind(alloc, source, keys, first, key),
         None => Ok(None),
     }
 }
@@ -511,18 +475,16 @@ fn key_again(
 // The token behind number `first`, which names the key, that names it again.
 fn key_behind(
     alloc: Global,
-    text: &str,
-    tokens: &[Token],
+    source: &Source,
     keys: &[usize],
     first: usize,
     key: &str,
 ) -> Result<Option<usize>, ReadError>
-    requires stand { All (Stands text.now) tokens.now }
-    requires first { IsNamedFrom text.now tokens.now keys.now 0 key.now first }
-    ensures ok { IfOk result (λ found. IfSome found (IsKeyAgain text.now tokens.now keys.now)) }
-    ensures err { IfErr result (IsRefused text.now tokens.now) }
+    requires first { IsNamedFrom source.now keys.now 0 key.now first }
+    ensures ok { IfOk result (λ found. IfSome found (IsKeyAgain source.now keys.now)) }
+    ensures err { IfErr result (IsRefused source.now) }
 {
-    let found = named_from(alloc, text, tokens, keys, first + 1, key)?;
+    let found = named_from(alloc, source, keys, first + 1, key)?;
     match found {
         Some(second) => Ok(Some(keys[second])),
         None => Ok(None),
@@ -532,19 +494,17 @@ fn key_behind(
 // Which of the tokens, from number `from` on, is the first to name the key.
 fn named_from(
     alloc: Global,
-    text: &str,
-    tokens: &[Token],
+    source: &Source,
     keys: &[usize],
     from: usize,
     key: &str,
 ) -> Result<Option<usize>, ReadError>
-    requires { All (Stands text.now) tokens.now }
     ensures ok { IfOk result
-        (λ found. IfSome found (IsNamedFrom text.now tokens.now keys.now from key.now)) }
-    ensures err { IfErr result (IsRefused text.now tokens.now) }
+        (λ found. IfSome found (IsNamedFrom source.now keys.now from key.now)) }
+    ensures err { IfErr result (IsRefused source.now) }
 {
     for n in from..keys.len() {
-        let named = leaves::key(alloc, text, tokens, keys[n])?;
+        let named = leaves::key(alloc, source, keys[n])?;
         if is_same(&named, key) {
             return Ok(Some(n));
         }

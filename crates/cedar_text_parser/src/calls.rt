@@ -1,7 +1,5 @@
 //! Whether each call is one of a function that is known.
-ghost use Rattle.std.specs.Prelude.{◌≡◌, ◌<◌, ◌≤◌, ◌-◌, All, IfOk, IfErr, length, string_bytes, Some};
-ghost use Rattle.cedar_text_lexer.specs.Tokens.{IsTokens};
-ghost use Rattle.cedar_text_lexer.specs.Values.{Stands};
+ghost use Rattle.std.specs.Prelude.{◌≡◌, ◌<◌, ◌≤◌, ◌-◌, IfOk, IfErr, length, string_bytes, Some};
 ghost use Rattle.std.specs.Prelude.{ℕ, ◌≢◌};
 ghost use Rattle.cedar_functions.specs.Functions.{Knowledge, knowledge, known_of};
 ghost use Rattle.cedar_functions.specs.declared.functions.Known.TheVariants as known;
@@ -15,12 +13,11 @@ ghost use Rattle.cedar_text_parser.specs.Reading.{IsPlaceWithin};
 use crate::errors::ParseError;
 use crate::leaves;
 use crate::refusals::ill_made;
+use crate::source::Source;
 use crate::words::{MethodKind, method};
 use cedar_functions::{Functions, Known};
 use cedar_names::CallStyle;
 use cedar_text_lexer::errors::ReadError;
-use cedar_text_lexer::sequence::{end_at, start_at};
-use cedar_text_lexer::tokens::Token;
 use cedar_text_syntax::steps::{Bracketed, Step, What};
 use std::alloc::{AllocError, Global};
 use std::rc::RcStr;
@@ -34,33 +31,29 @@ use std::rc::RcStr;
 /// end of the text.
 pub fn known_calls(
     alloc: Global,
-    text: &str,
-    tokens: &[Token],
+    source: &Source,
     steps: &[Step],
     functions: &Functions,
 ) -> Result<(), ParseError>
-    requires tokens { IsTokens 0 text.now tokens.now }
-    requires stand { All (Stands text.now) tokens.now }
-    ensures ok { IfOk result (λ _. AreKnownSteps (knowledge functions.now) text.now tokens.now steps.now) }
-    ensures err { IfErr result (AreCallsRefused (knowledge functions.now) text.now tokens.now steps.now) }
-    ensures placed { IfErr result (IsPlaceWithin text.now) }
+    ensures ok { IfOk result (λ _. AreKnownSteps (knowledge functions.now) source.now steps.now) }
+    ensures err { IfErr result (AreCallsRefused (knowledge functions.now) source.now steps.now) }
+    ensures placed { IfErr result (IsPlaceWithin source.now.text) }
 {
+    source.tokens_stand();
     for step in steps {
-        known_step(alloc, text, tokens, step.what, functions)?;
+        known_step(alloc, source, step.what, functions)?;
     }
     Ok(())
 }
 
 fn known_step(
     alloc: Global,
-    text: &str,
-    tokens: &[Token],
+    source: &Source,
     step: What,
     functions: &Functions,
 ) -> Result<(), ParseError>
-    requires { All (Stands text.now) tokens.now }
-    ensures ok { IfOk result (λ _. IsKnownStep (knowledge functions.now) text.now tokens.now step) }
-    ensures err { IfErr result (IsCallRefused (knowledge functions.now) text.now tokens.now step) }
+    ensures ok { IfOk result (λ _. IsKnownStep (knowledge functions.now) source.now step) }
+    ensures err { IfErr result (IsCallRefused (knowledge functions.now) source.now step) }
 {
     match step {
         What::Leaf(_) => Ok(()),
@@ -69,52 +62,47 @@ fn known_step(
         What::If => Ok(()),
         What::Field(_) => Ok(()),
         What::Bracketed(bracketed, count) => {
-            known_brackets(alloc, text, tokens, bracketed, count, functions)
+            known_brackets(alloc, source, bracketed, count, functions)
         }
     }
 }
 
 fn known_brackets(
     alloc: Global,
-    text: &str,
-    tokens: &[Token],
+    source: &Source,
     bracketed: Bracketed,
     count: usize,
     functions: &Functions,
 ) -> Result<(), ParseError>
-    requires { All (Stands text.now) tokens.now }
-    ensures ok { IfOk result (λ _. IsKnownCall (knowledge functions.now) text.now tokens.now bracketed count) }
+    ensures ok { IfOk result (λ _. IsKnownCall (knowledge functions.now) source.now bracketed count) }
     ensures err { IfErr result
-        (IsCallRefused (knowledge functions.now) text.now tokens.now (what.Bracketed bracketed count)) }
+        (IsCallRefused (knowledge functions.now) source.now (what.Bracketed bracketed count)) }
 {
     match bracketed {
         Bracketed::Set => Ok(()),
         Bracketed::Record => Ok(()),
-        Bracketed::Call(from, to) => known_call(alloc, text, tokens, from, to, count, functions),
-        Bracketed::Method(at) => known_method(alloc, text, tokens, at, count, functions),
+        Bracketed::Call(from, to) => known_call(alloc, source, from, to, count, functions),
+        Bracketed::Method(at) => known_method(alloc, source, at, count, functions),
     }
 }
 
 fn known_call(
     alloc: Global,
-    text: &str,
-    tokens: &[Token],
+    source: &Source,
     from: usize,
     to: usize,
     count: usize,
     functions: &Functions,
 ) -> Result<(), ParseError>
-    requires { All (Stands text.now) tokens.now }
     ensures ok { IfOk result
-        (λ _. IsKnownCall (knowledge functions.now) text.now tokens.now (bracketed.Call from to) count) }
+        (λ _. IsKnownCall (knowledge functions.now) source.now (bracketed.Call from to) count) }
     ensures err { IfErr result (IsCallRefused
-        (knowledge functions.now) text.now tokens.now (what.Bracketed (bracketed.Call from to) count)) }
+        (knowledge functions.now) source.now (what.Bracketed (bracketed.Call from to) count)) }
 {
-    if from < to && to <= tokens.len() {
+    if from < to && to <= source.len() {
         known_name(
             alloc,
-            text,
-            tokens,
+            source,
             from,
             to,
             CallStyle::FunctionStyle,
@@ -122,33 +110,30 @@ fn known_call(
             functions,
         )
     } else {
-        Err(ParseError::Read(ill_made(text, tokens)))
+        Err(ParseError::Read(ill_made(source)))
     }
 }
 
 fn known_method(
     alloc: Global,
-    text: &str,
-    tokens: &[Token],
+    source: &Source,
     at: usize,
     count: usize,
     functions: &Functions,
 ) -> Result<(), ParseError>
-    requires { All (Stands text.now) tokens.now }
     ensures ok { IfOk result
-        (λ _. IsKnownCall (knowledge functions.now) text.now tokens.now (bracketed.Method at) count) }
+        (λ _. IsKnownCall (knowledge functions.now) source.now (bracketed.Method at) count) }
     ensures err { IfErr result (IsCallRefused
-        (knowledge functions.now) text.now tokens.now (what.Bracketed (bracketed.Method at) count)) }
+        (knowledge functions.now) source.now (what.Bracketed (bracketed.Method at) count)) }
 {
-    if at < tokens.len() {
-        match method(leaves::word_at(text, tokens, at)) {
+    if at < source.len() {
+        match method(leaves::word_at(source, at)) {
             MethodKind::Operator(_) => Ok(()),
             MethodKind::IsEmpty => Ok(()),
             MethodKind::Function => {
                 known_name(
                     alloc,
-                    text,
-                    tokens,
+                    source,
                     at,
                     at + 1,
                     CallStyle::MethodStyle,
@@ -158,36 +143,34 @@ fn known_method(
             }
         }
     } else {
-        Err(ParseError::Read(ill_made(text, tokens)))
+        Err(ParseError::Read(ill_made(source)))
     }
 }
 
 // That the function which these tokens name is known, is called so, and takes so many arguments.
 fn known_name(
     alloc: Global,
-    text: &str,
-    tokens: &[Token],
+    source: &Source,
     from: usize,
     to: usize,
     style: CallStyle,
     count: usize,
     functions: &Functions,
 ) -> Result<(), ParseError>
-    requires stand { All (Stands text.now) tokens.now }
     requires order { from < to }
-    requires within { to ≤ length tokens.now }
+    requires within { to ≤ length source.now.tokens }
     ensures ok { IfOk result (λ _.
-        IsKnownCallee (knowledge functions.now) (Some (callee_at text.now tokens.now style from to)) count) }
+        IsKnownCallee (knowledge functions.now) (Some (callee_at source.now style from to)) count) }
     ensures err { IfErr result
-        (IsCalleeRefused (knowledge functions.now) (callee_at text.now tokens.now style from to) count) }
+        (IsCalleeRefused (knowledge functions.now) (callee_at source.now style from to) count) }
 {
-    match leaves::words(alloc, text, tokens, from, to) {
+    match leaves::words(alloc, source, from, to) {
         Ok(name) => {
             let call = Call {
                 style,
                 arguments: count,
-                start: start_at(tokens, from),
-                end: end_at(tokens, to - 1),
+                start: source.start_at(from),
+                end: source.end_at(to - 1),
             };
             let told = call.known_in(alloc, functions, &name);
             drop(name);

@@ -1,17 +1,15 @@
 //! Reads names and entities that stand alone.
-ghost use Rattle.std.specs.Prelude.{◌≡◌, ◌<◌, length, All, IfOk, IfErr};
-ghost use Rattle.cedar_text_lexer.specs.Tokens.{IsTokens};
-ghost use Rattle.cedar_text_lexer.specs.Values.{Stands};
+ghost use Rattle.std.specs.Prelude.{◌≡◌, ◌<◌, length, IfOk, IfErr};
 ghost use Rattle.cedar_text_lexer.specs.Sequence as Tokens;
 ghost use Rattle.cedar_text_parser.specs.Paths.{IsNameRead, IsEntityRead, IsPathRefused};
 ghost use Rattle.cedar_text_parser.specs.Reading.{IsWithin};
 
 use crate::leaves;
+use crate::source::Source;
 use cedar_names::{EntityUID, Loc, Name};
 use cedar_text_lexer::errors::{Expected, ReadError};
 use cedar_text_lexer::lexer;
-use cedar_text_lexer::sequence::{end_at, start_at};
-use cedar_text_lexer::tokens::{Kind, Token};
+use cedar_text_lexer::tokens::Kind;
 use cedar_text_syntax::{expect, path};
 use std::alloc::Global;
 
@@ -26,21 +24,20 @@ pub fn parse_name(alloc: Global, text: &str) -> Result<Name, ReadError>
     ensures placed { IfErr result (IsWithin text.now) }
 {
     let tokens = lexer::tokens(alloc, text)?;
-    let name = name_of(alloc, text, &tokens)?;
+    let name = name_of(alloc, &Source::of(text, &tokens))?;
     Ok(name)
 }
 
 // The name that the text's tokens are.
-fn name_of(alloc: Global, text: &str, tokens: &[Token]) -> Result<Name, ReadError>
-    requires tokens { IsTokens 0 text.now tokens.now }
-    requires stand { All (Stands text.now) tokens.now }
-    ensures ok { IfOk result (IsNameRead text.now) }
-    ensures err { IfErr result (IsPathRefused text.now) }
-    ensures placed { IfErr result (IsWithin text.now) }
+fn name_of(alloc: Global, source: &Source) -> Result<Name, ReadError>
+    ensures ok { IfOk result (IsNameRead source.now.text) }
+    ensures err { IfErr result (IsPathRefused source.now.text) }
+    ensures placed { IfErr result (IsWithin source.now.text) }
 {
+    let tokens = source.tokens();
     let reach = path(tokens, 0, Expected::Type)?;
     expect(tokens, reach.next, Kind::End, Expected::End)?;
-    let name = leaves::name(alloc, text, tokens, 0, reach.next)?;
+    let name = leaves::name(alloc, source, 0, reach.next)?;
     Ok(name)
 }
 
@@ -56,35 +53,34 @@ pub fn parse_entity_uid(alloc: Global, text: &str) -> Result<EntityUID, ReadErro
     ensures placed { IfErr result (IsWithin text.now) }
 {
     let tokens = lexer::tokens(alloc, text)?;
-    let uid = entity_of(alloc, text, &tokens)?;
+    let uid = entity_of(alloc, &Source::of(text, &tokens))?;
     Ok(uid)
 }
 
 // The entity that the text's tokens are.
-fn entity_of(alloc: Global, text: &str, tokens: &[Token]) -> Result<EntityUID, ReadError>
-    requires tokens { IsTokens 0 text.now tokens.now }
-    requires stand { All (Stands text.now) tokens.now }
-    ensures ok { IfOk result (IsEntityRead text.now) }
-    ensures err { IfErr result (IsPathRefused text.now) }
-    ensures placed { IfErr result (IsWithin text.now) }
+fn entity_of(alloc: Global, source: &Source) -> Result<EntityUID, ReadError>
+    ensures ok { IfOk result (IsEntityRead source.now.text) }
+    ensures err { IfErr result (IsPathRefused source.now.text) }
+    ensures placed { IfErr result (IsWithin source.now.text) }
 {
+    let tokens = source.tokens();
     let reach = path(tokens, 0, Expected::Entity)?;
     let id = expect(tokens, reach.next, Kind::Colons, Expected::Id)?;
     let last = expect(tokens, id, Kind::Text, Expected::NameOrId)?;
     expect(tokens, last, Kind::End, Expected::End)?;
-    let loc = loc_up_to(tokens, id);
-    let uid = leaves::entity(alloc, text, tokens, 0, id, loc)?;
+    let loc = loc_up_to(source, id);
+    let uid = leaves::entity(alloc, source, 0, id, loc)?;
     Ok(uid)
 }
 
 // From the first token up to the end of this one.
-fn loc_up_to(tokens: &[Token], last: usize) -> Loc
-    requires { last < length tokens.now }
-    ensures start { result.start ≡ Tokens.start_at tokens.now 0 }
-    ensures end { result.end ≡ Tokens.end_at tokens.now last }
+fn loc_up_to(source: &Source, last: usize) -> Loc
+    requires { last < length source.now.tokens }
+    ensures start { result.start ≡ Tokens.start_at source.now.tokens 0 }
+    ensures end { result.end ≡ Tokens.end_at source.now.tokens last }
 {
     Loc {
-        start: start_at(tokens, 0),
-        end: end_at(tokens, last),
+        start: source.start_at(0),
+        end: source.end_at(last),
     }
 }

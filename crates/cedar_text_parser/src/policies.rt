@@ -1,7 +1,6 @@
 //! Policies of a text.
-ghost use Rattle.std.specs.Prelude.{◌≡◌, ◌+◌, ◌++◌, ◌∷◌, ℕ, List, [], length, All, IfOk, IfErr, IfSome, IfNone};
+ghost use Rattle.std.specs.Prelude.{◌≡◌, ◌+◌, ◌++◌, ◌∷◌, ℕ, List, [], length, IfOk, IfErr, IfSome, IfNone};
 ghost use Rattle.cedar_layers.specs.Policies.{policy_id_text};
-ghost use Rattle.cedar_text_lexer.specs.Values.{Stands};
 ghost use Rattle.cedar_text_lexer.specs.declared.tokens.Kind.TheVariants as kind;
 ghost use Rattle.cedar_text_lexer.specs.Sequence as Tokens;
 ghost use Rattle.cedar_text_parser.specs.PolicyHeights.{with_scope, IsNoHigher, AreAllNoHigher};
@@ -10,10 +9,10 @@ ghost use Rattle.cedar_text_parser.specs.PolicyReading.{is_slot, id_of, IsSoFar,
 ghost use Rattle.cedar_text_syntax.specs.Places.{IsPlaced};
 ghost use Rattle.cedar_functions.specs.Functions.{Knowledge, knowledge};
 ghost use Rattle.cedar_text_parser.specs.Reading.{IsPlaceWithin};
-ghost use Rattle.cedar_text_lexer.specs.Tokens.{IsTokens};
 
 use crate::ParseError;
 use crate::policy_reading::{Read, policy_at};
+use crate::source::Source;
 use cedar_functions::Functions;
 use cedar_layers::policies::{Policy, PolicyID, PolicySet, PolicySetError};
 use cedar_names::FirstRest;
@@ -40,7 +39,8 @@ pub struct ParsedPolicies {
 /// # Errors
 ///
 /// Each has a place in the text; that reading fails there first is tested and not proved. Out of memory.
-/// Something else was expected than what is there. The clauses have more levels. A call is not one of the known
+/// Something else was expected than what is there. The clauses have more levels. Of a clause more than sixteen nodes
+/// would be built for each byte of it, as [`parse_expr`](crate::parse_expr) says. A call is not one of the known
 /// functions: there is no function of its name, the function of its name is called in the other style, or it takes
 /// another number of arguments.
 pub fn parse_policy(
@@ -56,8 +56,25 @@ pub fn parse_policy(
     ensures calls { IfErr result (IsTextRefused (knowledge functions.now) text.now limit) }
 {
     let tokens = lexer::tokens(alloc, text)?;
-    let read = policy_at(alloc, text, tokens.as_slice(), 0, id, limit, functions)?;
-    ends_at(tokens.as_slice(), read.next)?;
+    let policy = policy_of(alloc, &Source::of(text, &tokens), id, limit, functions)?;
+    Ok(policy)
+}
+
+// The policy that the text's tokens write.
+fn policy_of(
+    alloc: Global,
+    source: &Source,
+    id: PolicyID,
+    limit: usize,
+    functions: &Functions,
+) -> Result<Policy, ParseError>
+    ensures ok { IfOk result (IsPolicyText (knowledge functions.now) source.now.text limit (policy_id_text id)) }
+    ensures placed { IfErr result (IsPlaceWithin source.now.text) }
+    ensures calls { IfErr result (IsTextRefused (knowledge functions.now) source.now.text limit) }
+{
+    let tokens = source.tokens();
+    let read = policy_at(alloc, source, 0, id, limit, functions)?;
+    ends_at(tokens, read.next)?;
     Ok(read.policy)
 }
 
@@ -131,24 +148,30 @@ fn read_all(
     ensures told { IfOk result (λ r. AreTold (knowledge functions.now) text.now limit r.errors.items) }
 {
     let tokens = lexer::tokens(alloc, text)?;
+    let reading = read_tokens(alloc, &Source::of(text, &tokens), limit, functions)?;
+    Ok(reading)
+}
+
+// Reads all policies of the text's tokens.
+fn read_tokens(
+    alloc: Global,
+    source: &Source,
+    limit: usize,
+    functions: &Functions,
+) -> Result<Reading, AllocError>
+    ensures ok { IfOk result (IsRead (knowledge functions.now) source.now.text limit) }
+    ensures told { IfOk result (λ r. AreTold (knowledge functions.now) source.now.text limit r.errors.items) }
+{
     let mut reading = Reading::new(alloc);
     let mut index = 0;
-    for number in 0..tokens.len() {
-        if index >= tokens.len() || index + 1 == tokens.len() {
-            let read = reading.end_reading(tokens.as_slice(), index)?;
+    for number in 0..source.len() {
+        if index >= source.len() || index + 1 == source.len() {
+            let read = reading.end_reading(source, index)?;
             return Ok(read);
         }
-        index = reading.take(
-            alloc,
-            text,
-            tokens.as_slice(),
-            index,
-            number,
-            limit,
-            functions,
-        )?;
+        index = reading.take(alloc, source, index, number, limit, functions)?;
     }
-    let rest = reading.end_reading(tokens.as_slice(), index)?;
+    let rest = reading.end_reading(source, index)?;
     Ok(rest)
 }
 
@@ -169,45 +192,43 @@ impl Reading {
     fn take(
         &mut self,
         alloc: Global,
-        text: &str,
-        tokens: &[Token],
+        source: &Source,
         index: usize,
         number: usize,
         limit: usize,
         functions: &Functions,
     ) -> Result<usize, AllocError>
-        requires tokens { IsTokens 0 text.now tokens.now }
-        requires stand { All (Stands text.now) tokens.now }
         ensures ok { IfOk result (λ next.
-            IsSoFar (knowledge functions.now) text.now tokens.now limit index number self.old →
-            IsSoFar (knowledge functions.now) text.now tokens.now limit next (number + 1) self.new) }
-        ensures told { IfOk result (λ _. AreTold (knowledge functions.now) text.now limit self.old.errors.items →
-            AreTold (knowledge functions.now) text.now limit self.new.errors.items) }
+            IsSoFar (knowledge functions.now) source.now limit index number self.old →
+            IsSoFar (knowledge functions.now) source.now limit next (number + 1) self.new) }
+        ensures told { IfOk result (λ _. AreTold (knowledge functions.now) source.now.text limit self.old.errors.items →
+            AreTold (knowledge functions.now) source.now.text limit self.new.errors.items) }
     {
+        source.tokens_stand();
         let id = id_of_number(alloc, number)?;
-        match policy_at(alloc, text, tokens, index, id, limit, functions) {
+        match policy_at(alloc, source, index, id, limit, functions) {
             Ok(read) => {
-                let next = self.put(tokens, index, read)?;
+                let next = self.put(source, index, read)?;
                 Ok(next)
             }
             Err(error) => {
-                let next = self.refuse(tokens, index, error)?;
+                let next = self.refuse(source, index, error)?;
                 Ok(next)
             }
         }
     }
 
     // Puts the policy behind the others, or behind the other templates.
-    fn put(&mut self, tokens: &[Token], index: usize, read: Read) -> Result<usize, AllocError>
+    fn put(&mut self, source: &Source, index: usize, read: Read) -> Result<usize, AllocError>
         ensures next { IfOk result (λ next. next ≡ read.next) }
-        ensures ok { (k : Knowledge) (text : List ℕ) (limit number : ℕ) → IfOk result (λ next.
-            IsPolicyAt k text tokens.now limit (id_of number) index read.next read.policy →
-            IsSoFar k text tokens.now limit index number self.old →
-            IsSoFar k text tokens.now limit next (number + 1) self.new) }
+        ensures ok { (k : Knowledge) (limit number : ℕ) → IfOk result (λ next.
+            IsPolicyAt k source.now limit (id_of number) index read.next read.policy →
+            IsSoFar k source.now limit index number self.old →
+            IsSoFar k source.now limit next (number + 1) self.new) }
         ensures errors { self.new.errors.items ≡ self.old.errors.items }
     {
         let Read { policy, next } = read;
-        match slot_among(tokens, index, next) {
+        match slot_among(source.tokens(), index, next) {
             Some(_) => push(&mut self.templates, policy)?,
             None => push(&mut self.policies, policy)?,
         }
@@ -217,12 +238,12 @@ impl Reading {
     // Notes why the policy can't be read that begins with the token of this number, and goes on behind the next `;`.
     fn refuse(
         &mut self,
-        tokens: &[Token],
+        source: &Source,
         index: usize,
         error: ParseError,
     ) -> Result<usize, AllocError>
-        ensures ok { (k : Knowledge) (text : List ℕ) (limit i n : ℕ) →
-            IfOk result (λ _. IsSoFar k text tokens.now limit i n self.new) }
+        ensures ok { (k : Knowledge) (limit i n : ℕ) →
+            IfOk result (λ _. IsSoFar k source.now limit i n self.new) }
         ensures told { IfOk result (λ _. self.new.errors.items ≡ self.old.errors.items ++ error ∷ []) }
     {
         let start = match place_of(&error) {
@@ -230,19 +251,18 @@ impl Reading {
             None => return Err(AllocError),
         };
         push(&mut self.errors, error)?;
-        Ok(behind_semicolon(tokens, index, start))
+        Ok(behind_semicolon(source.tokens(), index, start))
     }
 
     // That was all: the token of this number is the last.
-    fn end_reading(self, tokens: &[Token], index: usize) -> Result<Reading, AllocError>
-        ensures ok { (k : Knowledge) (text : List ℕ) (limit number : ℕ) →
-            IfOk result (λ r. IsTokens 0 text tokens.now →
-            IsSoFar k text tokens.now limit index number self → IsRead k text limit r) }
-        ensures told { (k : Knowledge) (text : List ℕ) (limit : ℕ) →
-            IfOk result (λ r. All (Stands text) tokens.now →
-            AreTold k text limit self.errors.items → AreTold k text limit r.errors.items) }
+    fn end_reading(self, source: &Source, index: usize) -> Result<Reading, AllocError>
+        ensures ok { (k : Knowledge) (limit number : ℕ) →
+            IfOk result (λ r. IsSoFar k source.now limit index number self → IsRead k source.now.text limit r) }
+        ensures told { (k : Knowledge) (limit : ℕ) →
+            IfOk result (λ r. AreTold k source.now.text limit self.errors.items →
+            AreTold k source.now.text limit r.errors.items) }
     {
-        match ends_at(tokens, index) {
+        match ends_at(source.tokens(), index) {
             Ok(()) => Ok(self),
             Err(error) => {
                 let reading = self.refuse_policy(ParseError::Read(error))?;

@@ -1,20 +1,18 @@
 //! One policy of a text.
-ghost use Rattle.std.specs.Prelude.{◌≡◌, All, IfOk, IfErr, Some, true, false};
+ghost use Rattle.std.specs.Prelude.{◌≡◌, IfOk, IfErr, Some, true, false};
 ghost use Rattle.std.specs.Prelude.{if◌then◌else◌};
 ghost use Rattle.cedar_model.specs.Policies.{permit, forbid};
 ghost use Rattle.cedar_layers.specs.Policies.{policy_id_text, effect_view};
-ghost use Rattle.cedar_text_lexer.specs.Values.{Stands};
-ghost use Rattle.cedar_text_lexer.specs.Tokens.{IsTokens};
 ghost use Rattle.cedar_functions.specs.Functions.{knowledge};
 ghost use Rattle.cedar_text_parser.specs.Reading.{IsPlaceWithin};
 ghost use Rattle.cedar_text_parser.specs.PolicyReading.{IsPolicyAt, IsPolicyRefused, IsMadeOf};
 
 use crate::annotations::annotations;
+use crate::source::Source;
 use crate::{Four, ParseError, four_expressions, known_calls};
 use cedar_functions::Functions;
 use cedar_layers::policies::{Annotations, Effect, Policy, PolicyID};
 use cedar_names::{Loc, SlotEnv};
-use cedar_text_lexer::tokens::Token;
 use cedar_text_syntax::policy_steps;
 use std::alloc::{AllocError, Global};
 
@@ -28,24 +26,21 @@ pub(crate) struct Read {
 /// The policy of this id that begins with the token of this number.
 pub(crate) fn policy_at(
     alloc: Global,
-    text: &str,
-    tokens: &[Token],
+    source: &Source,
     index: usize,
     id: PolicyID,
     limit: usize,
     functions: &Functions,
 ) -> Result<Read, ParseError>
-    requires tokens { IsTokens 0 text.now tokens.now }
-    requires stand { All (Stands text.now) tokens.now }
-    ensures ok { IfOk result (λ r. IsPolicyAt (knowledge functions.now) text.now tokens.now limit (policy_id_text id)
+    ensures ok { IfOk result (λ r. IsPolicyAt (knowledge functions.now) source.now limit (policy_id_text id)
         index r.next r.policy) }
-    ensures err { IfErr result (IsPolicyRefused (knowledge functions.now) text.now tokens.now limit index) }
-    ensures placed { IfErr result (IsPlaceWithin text.now) }
+    ensures err { IfErr result (IsPolicyRefused (knowledge functions.now) source.now limit index) }
+    ensures placed { IfErr result (IsPlaceWithin source.now.text) }
 {
-    let read = policy_steps(alloc, tokens, index, limit)?;
-    known_calls(alloc, text, tokens, read.steps.as_slice(), functions)?;
-    let annotations = annotations(alloc, text, tokens, read.annotations.as_slice())?;
-    let four = four_expressions(alloc, text, tokens, read.steps.as_slice())?;
+    let read = policy_steps(alloc, source.tokens(), index, limit)?;
+    known_calls(alloc, source, read.steps.as_slice(), functions)?;
+    let annotations = annotations(alloc, source, read.annotations.as_slice())?;
+    let four = four_expressions(alloc, source, read.steps.as_slice())?;
     let loc = Loc {
         start: read.start,
         end: read.end,

@@ -1,7 +1,5 @@
 //! Reads expressions.
-ghost use Rattle.std.specs.Prelude.{All, IfOk, IfErr};
-ghost use Rattle.cedar_text_lexer.specs.Tokens.{IsTokens};
-ghost use Rattle.cedar_text_lexer.specs.Values.{Stands};
+ghost use Rattle.std.specs.Prelude.{IfOk, IfErr};
 ghost use Rattle.cedar_text_syntax.specs.Trees.{trees};
 ghost use Rattle.cedar_text_parser.specs.Heights.{IsNoHigher};
 ghost use Rattle.cedar_text_parser.specs.Reading.{IsRead, IsNotParsed, IsWithin, IsPlaceWithin, IsOnly, AreFour};
@@ -11,11 +9,11 @@ ghost use Rattle.cedar_text_parser.specs.Refusals.{AreRefused};
 use crate::builder::build_steps;
 use crate::calls::known_calls;
 use crate::errors::ParseError;
+use crate::source::Source;
 use cedar_expressions::Expr;
 use cedar_functions::Functions;
 use cedar_text_lexer::errors::ReadError;
 use cedar_text_lexer::lexer;
-use cedar_text_lexer::tokens::Token;
 use cedar_text_syntax::expression_steps;
 use cedar_text_syntax::steps::Step;
 use std::alloc::Global;
@@ -28,7 +26,8 @@ use std::alloc::Global;
 /// Each has a place in the text. Out of memory. Something else was expected than what is there: a token can't be
 /// where it is (that this is the first such token is tested and not proved), a number is larger than each long, an
 /// escape is none of the language, a key is a duplicate in its record, or a method that is an operator has too many
-/// arguments or too few. The expression has more levels. A call is not one of the known functions: there is no
+/// arguments or too few. The expression has more levels. More than sixteen nodes would be built for each byte of the
+/// text (`Expected::FewerNodes`): `a is T in b` has `a` twice. A call is not one of the known functions: there is no
 /// function of its name, the function of its name is called in the other style, or it takes another number of
 /// arguments.
 pub fn parse_expr(
@@ -43,27 +42,24 @@ pub fn parse_expr(
     ensures placed { IfErr result (IsPlaceWithin text.now) }
 {
     let tokens = lexer::tokens(alloc, text)?;
-    let made = expression_of(alloc, text, &tokens, limit, functions)?;
+    let made = expression_of(alloc, &Source::of(text, &tokens), limit, functions)?;
     Ok(made)
 }
 
 // The expression that the text's tokens write.
 fn expression_of(
     alloc: Global,
-    text: &str,
-    tokens: &[Token],
+    source: &Source,
     limit: usize,
     functions: &Functions,
 ) -> Result<Expr, ParseError>
-    requires tokens { IsTokens 0 text.now tokens.now }
-    requires stand { All (Stands text.now) tokens.now }
-    ensures ok { IfOk result (IsRead (knowledge functions.now) text.now limit) }
-    ensures err { IfErr result (IsNotParsed (knowledge functions.now) text.now) }
-    ensures placed { IfErr result (IsPlaceWithin text.now) }
+    ensures ok { IfOk result (IsRead (knowledge functions.now) source.now.text limit) }
+    ensures err { IfErr result (IsNotParsed (knowledge functions.now) source.now.text) }
+    ensures placed { IfErr result (IsPlaceWithin source.now.text) }
 {
-    let steps = expression_steps(alloc, tokens, limit)?;
-    known_calls(alloc, text, tokens, &steps, functions)?;
-    let made = expression(alloc, text, tokens, &steps)?;
+    let steps = expression_steps(alloc, source.tokens(), limit)?;
+    known_calls(alloc, source, &steps, functions)?;
+    let made = expression(alloc, source, &steps)?;
     Ok(made)
 }
 
@@ -73,19 +69,14 @@ fn expression_of(
 ///
 /// Out of memory. What a step makes can't be: see [`parse_expr`]. The steps make no expression, or more than one:
 /// `Expected::Steps`, at the end of the text.
-pub fn expression(
-    alloc: Global,
-    text: &str,
-    tokens: &[Token],
-    steps: &[Step],
-) -> Result<Expr, ReadError>
-    requires { All (Stands text.now) tokens.now }
-    ensures ok { IfOk result (IsOnly text.now tokens.now (trees steps.now)) }
-    ensures err { IfErr result (AreRefused text.now tokens.now steps.now) }
-    ensures placed { IfErr result (IsWithin text.now) }
+pub fn expression(alloc: Global, source: &Source, steps: &[Step]) -> Result<Expr, ReadError>
+    ensures ok { IfOk result (IsOnly source.now (trees steps.now)) }
+    ensures err { IfErr result (AreRefused source.now steps.now) }
+    ensures placed { IfErr result (IsWithin source.now.text) }
 {
-    let builder = build_steps(alloc, text, tokens, steps)?;
-    let made = builder.only(text, tokens)?;
+    source.tokens_stand();
+    let builder = build_steps(alloc, source, steps)?;
+    let made = builder.only(source)?;
     Ok(made)
 }
 
@@ -108,18 +99,13 @@ pub struct Four {
 ///
 /// Out of memory. What a step makes can't be: see [`parse_expr`]. The steps make fewer or more:
 /// `Expected::Steps`, at the end of the text.
-pub fn four_expressions(
-    alloc: Global,
-    text: &str,
-    tokens: &[Token],
-    steps: &[Step],
-) -> Result<Four, ReadError>
-    requires { All (Stands text.now) tokens.now }
-    ensures ok { IfOk result (AreFour text.now tokens.now (trees steps.now)) }
-    ensures err { IfErr result (AreRefused text.now tokens.now steps.now) }
-    ensures placed { IfErr result (IsWithin text.now) }
+pub fn four_expressions(alloc: Global, source: &Source, steps: &[Step]) -> Result<Four, ReadError>
+    ensures ok { IfOk result (AreFour source.now (trees steps.now)) }
+    ensures err { IfErr result (AreRefused source.now steps.now) }
+    ensures placed { IfErr result (IsWithin source.now.text) }
 {
-    let builder = build_steps(alloc, text, tokens, steps)?;
-    let made = builder.four(text, tokens)?;
+    source.tokens_stand();
+    let builder = build_steps(alloc, source, steps)?;
+    let made = builder.four(source)?;
     Ok(made)
 }

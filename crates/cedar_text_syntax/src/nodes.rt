@@ -50,7 +50,7 @@ pub(crate) fn limit_nodes(
     let mut last = 0;
     for step in steps {
         last = relation_of(step.what, last);
-        match counts.taken(step.what) {
+        match counts.take(step.what) {
             Some(count) if count <= most => counts.put(tokens, count)?,
             _ => return Err(expected_at(tokens, last, Expected::FewerNodes(most))),
         }
@@ -127,21 +127,21 @@ impl Counts {
         self.counts.pop()
     }
 
-    // How many nodes are built of what the step makes, where a number holds them; its parts are taken.
-    fn taken(&mut self, what: What) -> Option<usize>
+    // Takes the parts of the step: how many nodes are built of what it makes, where a number holds them.
+    fn take(&mut self, what: What) -> Option<usize>
         ensures { IfSome result (λ count. count ∷ self.new ≡ counted what self.old) }
     {
         match what {
             What::Leaf(_) => Some(1),
             What::Unary(_) => self.pop()?.checked_add(1),
-            What::Binary(binary) => self.taken_by(binary),
-            What::If => self.three(),
+            What::Binary(binary) => self.take_two(binary),
+            What::If => self.take_three(),
             What::Field(_) => self.pop(),
             What::Bracketed(_, count) => self.sum(count)?.checked_add(1),
         }
     }
 
-    fn taken_by(&mut self, binary: Binary) -> Option<usize>
+    fn take_two(&mut self, binary: Binary) -> Option<usize>
         ensures { IfSome result (λ count. count ∷ self.new ≡ counted (What.Binary binary) self.old) }
     {
         let right = self.pop()?;
@@ -149,7 +149,7 @@ impl Counts {
         join(binary, left, right)
     }
 
-    fn three(&mut self) -> Option<usize>
+    fn take_three(&mut self) -> Option<usize>
         ensures { IfSome result (λ count. count ∷ self.new ≡ counted What.If self.old) }
     {
         let otherwise = self.pop()?;

@@ -12,6 +12,6 @@ loop-step-preserved c = step_made _ _ _ c.loop-step-test.true (c.in_ok-take.ensu
 
 pub returns-in_err-take-clause-err : goal.returns-in_err-take-clause-err
 returns-in_err-take-clause-err c =
-    passed_up c.from_residual.result _ (AreRefused c.args.text.now c.args.tokens.now c.args.steps.now)
+    passed_up c.from_residual.result _ (AreRefused c.args.source.now c.args.steps.now)
     c.from_residual.ensures.1
     (at_step _ c.loop-step-test.true (c.in_err-take.ensures.err _ c.loop-step.invariant))

@@ -5,4 +5,4 @@ use Rattle.cedar_text_parser.specs.Finished.{finished}
 use Rattle.cedar_text_parser.proofs.builder.build_steps.Given as goal
 
 abbrev pub invariant-loop-step : goal.invariant-loop-step
-invariant-loop-step l = Are l.text l.tokens (finished l.builder) (trees (take l.step-index l.steps))
+invariant-loop-step l = Are l.source (finished l.builder) (trees (take l.step-index l.steps))

@@ -7,14 +7,14 @@ use Rattle.cedar_text_parser.specs.Calls.{IsCallRefused, by_name, callee_at}
 use Rattle.cedar_text_parser.proofs.Known.{call_refused, told_on}
 use Rattle.cedar_text_parser.proofs.calls.known_call.Goals as goal
 
-pub returns-then-to-tokens-clause-err : goal.returns-then-to-tokens-clause-err
-returns-then-to-tokens-clause-err c =
+pub returns-then-to-len-clause-err : goal.returns-then-to-len-clause-err
+returns-then-to-len-clause-err c =
     told_on c.known_name.result
-    (IsCallRefused (knowledge c.args.functions.now) c.args.text.now c.args.tokens.now
+    (IsCallRefused (knowledge c.args.functions.now) c.args.source.now
     (what.Bracketed (brackets.Call c.args.from c.args.to) c.args.count))
     (λ e h.
     call_refused (brackets.Call c.args.from c.args.to) c.args.count
-    (callee_at c.args.text.now c.args.tokens.now FunctionStyle c.args.from c.args.to) e (omega arith, omega arith) refl
+    (callee_at c.args.source.now FunctionStyle c.args.from c.args.to) e (omega arith, omega arith) refl
     h) c.known_name.ensures.err
 
 pub returns-else-from-to-clause-err : goal.returns-else-from-to-clause-err

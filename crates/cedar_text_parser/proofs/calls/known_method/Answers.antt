@@ -11,12 +11,12 @@ pub returns-in-Function-clause-err : goal.returns-in-Function-clause-err
 returns-in-Function-clause-err c =
     let is = rw c.word_at.ensures at (sym c.method.ensures ∙ c.in-Function.is) in
     told_on c.known_name.result
-    (IsCallRefused (knowledge c.args.functions.now) c.args.text.now c.args.tokens.now
+    (IsCallRefused (knowledge c.args.functions.now) c.args.source.now
     (what.Bracketed (brackets.Method c.args.at) c.args.count))
     (λ e h.
     call_refused (brackets.Method c.args.at) c.args.count
-    (callee_at c.args.text.now c.args.tokens.now MethodStyle c.args.at (c.args.at + 1)) e (omega arith)
-    (method_callee_is c.args.text.now c.args.tokens.now c.args.at is) h) c.known_name.ensures.err
+    (callee_at c.args.source.now MethodStyle c.args.at (c.args.at + 1)) e (omega arith)
+    (method_callee_is c.args.source.now c.args.at is) h) c.known_name.ensures.err
 
-pub returns-else-at-tokens-clause-err : goal.returns-else-at-tokens-clause-err
-returns-else-at-tokens-clause-err c = by_name c.ill_made.ensures
+pub returns-else-at-len-clause-err : goal.returns-else-at-len-clause-err
+returns-else-at-len-clause-err c = by_name c.ill_made.ensures

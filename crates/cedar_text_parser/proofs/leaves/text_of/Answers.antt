@@ -1,12 +1,8 @@
 use Rattle.std.proofs.Common.{false}
-use Rattle.cedar_text_parser.proofs.Places.{token_stands, escape_refused}
+use Rattle.cedar_text_parser.proofs.Places.{escape_refused}
 use Rattle.cedar_text_parser.proofs.leaves.text_of.Goals as goal
-
-pub text_value-requires-clause-stands : goal.text_value-requires-clause-stands
-text_value-requires-clause-stands c =
-    rw c.token_at.ensures (token_stands c.args.text.now c.args.tokens.now c.args.at c.requires.within c.requires.stand)
 
 pub returns-in-Err-clause-err : goal.returns-in-Err-clause-err
 returns-in-Err-clause-err c =
-    escape_refused c.args.text.now c.args.tokens.now false c.in-Err.error c.requires.within c.requires.is
-    (rw c.token_at.ensures at c.in-Err.ensures.refused)
+    escape_refused c.args.source.now false c.in-Err.error c.requires.within c.requires.is
+    (rw (c.token_at.ensures.is, c.text.ensures.is) at c.in-Err.ensures.refused)

@@ -9,6 +9,6 @@ returns-clause-ok c =
     rw c.val.ensures.kind
     (entity_node {u = c.in_ok-uid-2.uid}
     (subst
-    (λ (x : EntityUID). IsEntityAt c.args.text.now c.args.tokens.now c.args.from c.args.to c.args.loc.start
+    (λ (x : EntityUID). IsEntityAt c.args.source.now c.args.from c.args.to c.args.loc.start
     c.args.loc.end x)
     (sym c.in_ok-uid-2.ensures.ok) c.in_ok-uid.ensures.ok))

@@ -11,3 +11,6 @@ returns-in_err-tokens-clause-err c =
 
 pub returns-clause-low : goal.returns-clause-low
 returns-clause-low c = read_low _ c.in_ok-made.ensures.ok
+
+pub returns-clause-ok : goal.returns-clause-ok
+returns-clause-ok c = rw c.of.ensures at c.in_ok-made.ensures.ok

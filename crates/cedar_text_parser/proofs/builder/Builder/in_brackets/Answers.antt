@@ -9,21 +9,21 @@ use Rattle.cedar_text_parser.proofs.builder.Builder.in_brackets.Goals as goal
 
 pub returns-in-Set-clause-err : goal.returns-in-Set-clause-err
 returns-in-Set-clause-err c =
-    IfErr-weaker c.list.result (λ e. IsRefused c.args.text.now c.args.tokens.now e)
-    (λ e. (ts : List Tree) → Are c.args.text.now c.args.tokens.now (finished c.args.self.now) ts →
-    IsRefusedOn c.args.text.now c.args.tokens.now ts (what.Bracketed c.args.bracketed c.args.count) e)
+    IfErr-weaker c.list.result (λ e. IsRefused c.args.source.now e)
+    (λ e. (ts : List Tree) → Are c.args.source.now (finished c.args.self.now) ts →
+    IsRefusedOn c.args.source.now ts (what.Bracketed c.args.bracketed c.args.count) e)
     (λ e h ts are. by_tokens h) c.list.ensures.err
 
 pub returns-in-Call-clause-err : goal.returns-in-Call-clause-err
 returns-in-Call-clause-err c =
-    IfErr-weaker c.list-in-Call.result (λ e. IsRefused c.args.text.now c.args.tokens.now e)
-    (λ e. (ts : List Tree) → Are c.args.text.now c.args.tokens.now (finished c.args.self.now) ts →
-    IsRefusedOn c.args.text.now c.args.tokens.now ts (what.Bracketed c.args.bracketed c.args.count) e)
+    IfErr-weaker c.list-in-Call.result (λ e. IsRefused c.args.source.now e)
+    (λ e. (ts : List Tree) → Are c.args.source.now (finished c.args.self.now) ts →
+    IsRefusedOn c.args.source.now ts (what.Bracketed c.args.bracketed c.args.count) e)
     (λ e h ts are. by_tokens h) c.list-in-Call.ensures.err
 
 pub returns-in-Method-clause-err : goal.returns-in-Method-clause-err
 returns-in-Method-clause-err c =
-    IfErr-weaker c.list-in-Method.result (λ e. IsRefused c.args.text.now c.args.tokens.now e)
-    (λ e. (ts : List Tree) → Are c.args.text.now c.args.tokens.now (finished c.args.self.now) ts →
-    IsRefusedOn c.args.text.now c.args.tokens.now ts (what.Bracketed c.args.bracketed c.args.count) e)
+    IfErr-weaker c.list-in-Method.result (λ e. IsRefused c.args.source.now e)
+    (λ e. (ts : List Tree) → Are c.args.source.now (finished c.args.self.now) ts →
+    IsRefusedOn c.args.source.now ts (what.Bracketed c.args.bracketed c.args.count) e)
     (λ e h ts are. by_tokens h) c.list-in-Method.ensures.err

@@ -12,16 +12,16 @@ use Rattle.cedar_text_parser.proofs.builder.Builder.record.Goals as goal
 pub returns-in_err-fields-clause-err : goal.returns-in_err-fields-clause-err
 returns-in_err-fields-clause-err c =
     passed_up c.from_residual.result _ (λ e. (ts : List Tree) →
-    Are c.args.text.now c.args.tokens.now (finished c.args.self.now) ts →
-    IsRefusedOn c.args.text.now c.args.tokens.now ts (what.Bracketed bracketed.Record c.args.count) e)
+    Are c.args.source.now (finished c.args.self.now) ts →
+    IsRefusedOn c.args.source.now ts (what.Bracketed bracketed.Record c.args.count) e)
     c.from_residual.ensures.1
     (λ ts h. by_tokens c.in_err-fields.ensures.err)
 
 pub returns-in_err-put-in-Ok-clause-err : goal.returns-in_err-put-in-Ok-clause-err
 returns-in_err-put-in-Ok-clause-err c =
     passed_up c.from_residual-in_err-put-in-Ok.result _ (λ e. (ts : List Tree) →
-    Are c.args.text.now c.args.tokens.now (finished c.args.self.now) ts →
-    IsRefusedOn c.args.text.now c.args.tokens.now ts (what.Bracketed bracketed.Record c.args.count) e)
+    Are c.args.source.now (finished c.args.self.now) ts →
+    IsRefusedOn c.args.source.now ts (what.Bracketed bracketed.Record c.args.count) e)
     c.from_residual-in_err-put-in-Ok.ensures.1
     (λ ts h. by_tokens tt)
 

@@ -5,7 +5,8 @@ use Rattle.cedar_text_parser.proofs.calls.Call.in_other_style.Goals as goal
 pub returns-in_err-name-clause-err : goal.returns-in_err-name-clause-err
 returns-in_err-name-clause-err c =
     λ k m is not.
-    passed_up c.from_residual.result _ (IsCalleeRefused k (callee_named c.args.self c.args.name.now) c.args.self.arguments)
+    passed_up c.from_residual.result _
+    (IsCalleeRefused k (callee_named c.args.self c.args.name.now) c.args.self.arguments)
     c.from_residual.ensures.1 for_out_of_memory
 
 pub returns-clause-err : goal.returns-clause-err

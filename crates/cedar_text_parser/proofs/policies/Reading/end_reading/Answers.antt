@@ -6,6 +6,7 @@ use Rattle.cedar_text_parser.proofs.policies.Reading.end_reading.Goals as goal
 
 pub returns-in_ok-reading-in-Err-clause-told : goal.returns-in_ok-reading-in-Err-clause-told
 returns-in_ok-reading-in-Err-clause-told c =
-    λ k text limit stand h.
+    λ k limit h.
     told_behind (parse.Read c.in-Err.error) c.in_ok-reading-in-Err.ensures.told
-    (placed_within text c.args.tokens.now stand _ c.in-Err.ensures.err) in_reading h
+    (placed_within c.args.source.now c.tokens.ensures.own.stand _ (rw c.tokens.ensures.is at c.in-Err.ensures.err))
+    in_reading h

@@ -6,4 +6,4 @@ pub returns-in_ok-next-in-Err-clause-told : goal.returns-in_ok-next-in-Err-claus
 returns-in_ok-next-in-Err-clause-told c =
     λ h.
     told_behind c.in-Err.error c.in_ok-next-in-Err.ensures.told c.in-Err.ensures.placed
-    (at_policy c.requires.tokens c.in-Err.ensures.err) h
+    (at_policy c.tokens_stand.ensures.cut c.in-Err.ensures.err) h

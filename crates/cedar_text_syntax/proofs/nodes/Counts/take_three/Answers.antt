@@ -1,5 +1,5 @@
 use Rattle.cedar_text_syntax.proofs.Counting.{three_taken}
-use Rattle.cedar_text_syntax.proofs.nodes.Counts.three.Goals as goal
+use Rattle.cedar_text_syntax.proofs.nodes.Counts.take_three.Goals as goal
 
 pub returns : goal.returns
 returns c =
