@@ -1,0 +1,5 @@
+pub mod Determined
+pub mod Kept
+pub mod Lexed
+pub mod Progress
+pub mod Splits
