@@ -167,7 +167,9 @@ fn check_parse<'a>(alloc: Global) -> Result<Command<'a>, AllocError> {
 }
 
 fn format<'a>(alloc: Global) -> Result<Command<'a>, AllocError> {
+    let help = "Prints nothing; the status is 1 if the file would change";
     Command::new(alloc, "format")
-        .about("The policies in Cedar's own layout, without their comments")
-        .arg(policies(alloc))
+        .about("The policies in one layout, with their comments")
+        .arg(policies(alloc))?
+        .arg(flag(alloc, "check", help))
 }

@@ -22,8 +22,9 @@
 //! the functions of `specs/Standard.antt` and the JSON of `specs/Documents.antt`); without a limit, and where nothing is
 //! unknown, `ALLOW` stands first exactly where the policies allow. It refuses for the reasons of `specs/Reasons.antt`
 //! alone (`refused`). Each decision is printed with its status (`specs/Printing.antt`), and line and column are those of
-//! the byte (`specs/Noted.antt`). A refused run has nothing to print by its type (`Answer`). The other public calls have
-//! no clause, but for `status_of`; what the commands print is tested by the tables of `cedar_test_cli`.
+//! the byte (`specs/Noted.antt`). What `format` answers has the tokens and comments of its text (`format_policies`,
+//! `check_format`). A refused run has nothing to print by its type (`Answer`). The other public calls have no clause,
+//! but for `status_of`; what the commands print is tested by the tables of `cedar_test_cli`.
 #![tactic(auto)]
 
 mod ancestors;
@@ -55,6 +56,6 @@ pub use cedar_policy_core::authorizer::{Decision, ErrorHandling};
 pub use decisions::{Printed, authorize, status_of};
 pub use evaluations::evaluate_expression;
 pub use partial::partially_authorized;
-pub use policies::{check_policies, format_policies};
+pub use policies::{check_format, check_policies, format_policies};
 pub use refusal::{Refusal, refuse_with_line};
 pub use run::{Answer, answer_command};

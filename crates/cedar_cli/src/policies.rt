@@ -1,6 +1,7 @@
 //! Policies of a text.
-ghost use Rattle.std.specs.Prelude.{IfOk, OnOk, IfErr};
+ghost use Rattle.std.specs.Prelude.{IfOk, OnOk, IfErr, string_bytes};
 ghost use Rattle.cedar_functions.specs.Functions.{knowledge, these, signatures_of};
+ghost use Rattle.cedar_text_formatter.specs.Formatted.{IsFormatted};
 ghost use Rattle.cedar_text_parser.specs.PolicyHeights.{with_scope, AreAllNoHigher};
 ghost use Rattle.cedar_text_parser.specs.PolicyReading.{AreAllRead};
 ghost use Rattle.cedar_cli.specs.Questions.{levels};
@@ -9,7 +10,7 @@ ghost use Rattle.cedar_cli.specs.Reasons.{IsToldFor, IsOfPolicies, ArePoliciesUn
 use crate::asked::Source;
 use crate::limits::LEVELS;
 use crate::places::Places;
-use crate::refusal::{Refusal, unparsed_lines};
+use crate::refusal::{Refusal, refuse_with_line, unparsed_lines};
 use crate::visible::push_visible;
 use crate::warnings::{MOST, others};
 use cedar_policy_core::ast::{
@@ -17,9 +18,8 @@ use cedar_policy_core::ast::{
 };
 use cedar_policy_core::extensions::Extensions;
 use cedar_policy_core::parser::{Functions, ParseError, ParsedPolicies, parse_policies};
-use cedar_policy_core::writing::policy_to_cedar;
+use cedar_policy_core::writing::{FormatError, format_text, is_formatted};
 use std::alloc::{AllocError, Global};
-use std::collections::BTreeMap;
 use std::rc::RcStr;
 
 /// The policies that the text writes, which call no other functions than these.
@@ -146,51 +146,43 @@ pub fn check_policies(alloc: Global, source: Source<'_>) -> Result<(), Refusal> 
     Ok(())
 }
 
-/// The policies and the templates in Cedar's own layout, in their order, with an empty line between two. Comments are
-/// left out. The standard functions and `unknown` may be called in them.
-pub fn format_policies(alloc: Global, source: Source<'_>) -> Result<String, Refusal> {
-    let parsed = read_with_unknown(alloc, source)?;
-    let lines = layout(alloc, &parsed);
-    drop(parsed);
-    Ok(lines?)
+/// The text of the policies in one layout, with its comments: its tokens and comments stay what they are, in their
+/// order. Refused where the policies can't be read, in which the standard functions and `unknown` may be called.
+pub fn format_policies(alloc: Global, source: Source<'_>) -> Result<String, Refusal>
+    ensures { IfOk result (λ formatted. IsFormatted source.entry.text.now (string_bytes formatted)) }
+{
+    check_policies(alloc, source)?;
+    match format_text(alloc, source.text) {
+        Ok(formatted) => Ok(formatted),
+        Err(FormatError::Memory) => Err(Refusal::Memory),
+        Err(FormatError::Unreadable) => Err(is_unreadable(alloc, source)),
+    }
 }
 
-fn layout(alloc: Global, parsed: &ParsedPolicies) -> Result<String, AllocError> {
-    let mut texts: BTreeMap<usize, String> = BTreeMap::new(alloc);
-    for policy in parsed.policies.policies() {
-        put(alloc, policy, &mut texts)?;
+/// Whether the text of the policies is in that layout already: if not, or if they can't be read, it is refused.
+pub fn check_format(alloc: Global, source: Source<'_>) -> Result<(), Refusal>
+    ensures { OnOk result (IsFormatted source.entry.text.now source.entry.text.now) }
+{
+    check_policies(alloc, source)?;
+    match is_formatted(alloc, source.text) {
+        Ok(true) => Ok(()),
+        Ok(false) => Err(would_change(alloc, source)),
+        Err(FormatError::Memory) => Err(Refusal::Memory),
+        Err(FormatError::Unreadable) => Err(is_unreadable(alloc, source)),
     }
-    for template in parsed.templates.iter() {
-        put(alloc, template, &mut texts)?;
-    }
-    join_texts(alloc, &texts)
 }
 
-// Puts the policy's text under the place where it stands.
-fn put(
-    alloc: Global,
-    policy: &Policy,
-    texts: &mut BTreeMap<usize, String>,
-) -> Result<(), AllocError> {
-    let place = match policy.loc() {
-        Some(loc) => loc.start,
-        None => usize::MAX,
-    };
-    let text = policy_to_cedar(alloc, policy)?;
-    drop(texts.insert(place, text)?);
-    Ok(())
+#[cold]
+fn would_change(alloc: Global, source: Source<'_>) -> Refusal {
+    let name = source.name;
+    refuse_with_line(alloc, format!(in alloc; "{name}: `format` would change it"))
 }
 
-fn join_texts(alloc: Global, texts: &BTreeMap<usize, String>) -> Result<String, AllocError> {
-    let mut all = String::new(alloc);
-    for text in texts.values() {
-        if !all.is_empty() {
-            all.push_str("\n")?;
-        }
-        all.push_str(text.as_str())?;
-        all.push_str("\n")?;
-    }
-    Ok(all)
+// No text is refused so: one of which a token can't be read holds no policies.
+#[cold]
+fn is_unreadable(alloc: Global, source: Source<'_>) -> Refusal {
+    let name = source.name;
+    refuse_with_line(alloc, format!(in alloc; "{name}: a token can't be read"))
 }
 
 /// The policy of this id.

@@ -2,7 +2,7 @@
 use crate::commands::cedar;
 use crate::files::Texts;
 use crate::{
-    Asked, ErrorHandling, Printed, Refusal, Source, Way, authorize, check_policies,
+    Asked, ErrorHandling, Printed, Refusal, Source, Way, authorize, check_format, check_policies,
     evaluate_expression, format_policies, partially_authorized,
 };
 use clap::error::ErrorKind;
@@ -109,8 +109,17 @@ fn run_with(
             check_policies(alloc, policies)?;
             Ok(nothing(alloc))
         }
-        _ => Ok(printed_alone(alloc, format_policies(alloc, policies)?)),
+        _ => format(alloc, policies, matches.get_flag("check")),
     }
+}
+
+// With `--check` nothing is printed.
+fn format(alloc: Global, policies: Source<'_>, is_check: bool) -> Result<Printed, Refusal> {
+    if is_check {
+        check_format(alloc, policies)?;
+        return Ok(nothing(alloc));
+    }
+    Ok(printed_alone(alloc, format_policies(alloc, policies)?))
 }
 
 fn partial(

@@ -1,0 +1,3 @@
+// first
+permit(principal, action, resource)
+  when { true }; // last
