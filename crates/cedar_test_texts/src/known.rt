@@ -1,6 +1,7 @@
 //! What is read where only the function `unknown` is known.
 use crate::answer::Answer;
 use crate::questions::{MANY, Shown, ask_expression, ask_policies, ask_policy};
+use crate::told::ask_told;
 use cedar_extensions::{Extension, ExtensionFunction, Extensions};
 use cedar_functions::Functions;
 use cedar_names::Name;
@@ -15,6 +16,7 @@ pub fn ask_known(answer: &mut Answer, question: &str, text: &str) {
                 "tree" => ask_expression(answer, Shown::Tree, MANY, text, &functions),
                 "policies" => ask_policies(answer, Shown::Tree, text, &functions),
                 "policy" => ask_policy(answer, text, &functions),
+                "told" => ask_told(answer, text, &functions),
                 _ => answer.refuse("no such question"),
             }
             drop(functions);

@@ -5,6 +5,7 @@
 //! - `rows`, `signs`, `questions`, `answer`: tables, texts in rows, what is asked of a text, and what is answered.
 //! - `trees`, `places`, `policies`: expressions as trees, where their nodes are, and policies.
 //! - `json`: what is asked of texts in JSON. `known`: what is read where only the function `unknown` is known.
+//!   `told`: what an error says without the text.
 //! - `written`: texts that are read, written and asked again. `samples`, `built`: policies that are made in code, as
 //!   text.
 //!
@@ -22,6 +23,7 @@ mod questions;
 mod rows;
 mod samples;
 mod signs;
+mod told;
 mod trees;
 mod written;
 

@@ -11,6 +11,7 @@
 //! - `built`: the policy of this name that is made in code (`samples`), written in Cedar's own syntax;
 //! - `known tree`, `known policies` and `known policy`: the same, where `unknown` is the only function that is known; of
 //!   a call of another it says `LINE:COLUMN` and why it is refused;
+//! - `known told`: that the text is read, or what its error says without the text;
 //! - `json QUESTION`: what `json` has of texts in JSON.
 use crate::answer::Answer;
 use crate::built::ask_built;

@@ -3,7 +3,7 @@ use Rattle.std.specs.Prelude.{◌++◌, ℕ, ◌==◌, List, length, min, codes,
 use Rattle.std.specs.Rc.{rc_str_bytes}
 use Rattle.std.specs.declared.alloc.Global.{Global}
 use Rattle.std.specs.declared.rc.RcStr.{RcStr}
-use Rattle.cedar_text_lexer.specs.Messages.{message_of as read_message, told_of}
+use Rattle.cedar_text_lexer.specs.Messages.{message_of as read_message, error_text as read_text, told_of, at_byte}
 use Rattle.cedar_text_lexer.specs.Positions.{headline_of, position_of}
 use Rattle.cedar_names.specs.declared.names.CallStyle.{CallStyle}
 use Rattle.cedar_names.specs.declared.names.CallStyle.TheVariants.{FunctionStyle, MethodStyle}
@@ -55,6 +55,13 @@ message_of text (error.Read r) = read_message text r
 message_of text (error.UnknownFunction f style near s e) = unknown_message (rc_str_bytes f) style near
 message_of text (error.WrongStyle f style s e) = style_message (rc_str_bytes f) style
 message_of text (error.WrongNumberOfArguments f m n s e) = number_message (rc_str_bytes f) m n
+
+-- what is told without the text: the byte, and why
+abbrev pub error_text : ParseError → List ℕ
+error_text (error.Read r) = read_text r
+error_text (error.UnknownFunction f style near s e) = at_byte s (unknown_message (rc_str_bytes f) style near)
+error_text (error.WrongStyle f style s e) = at_byte s (style_message (rc_str_bytes f) style)
+error_text (error.WrongNumberOfArguments f m n s e) = at_byte s (number_message (rc_str_bytes f) m n)
 
 -- what is told at a place of the text, before the line itself
 abbrev pub told_at : List ℕ → ℕ → List ℕ → List ℕ

@@ -6,11 +6,12 @@ ghost use Rattle.cedar_text_lexer.specs.declared.errors.ReadError.TheVariants as
 use cedar_names::CallStyle;
 use cedar_text_lexer::errors::ReadError;
 use std::alloc::{AllocError, AllocFailed};
+use std::error::Error;
 use std::rc::RcStr;
 
 /// Why a text with expressions can't be read, and where. A call of a function that isn't known stands where its name
 /// does: from the byte `start` up to, but not including, the byte `end`.
-#[derive(Drop)]
+#[derive(Debug, Drop)]
 pub enum ParseError {
     /// Out of memory, or something else was expected than what stands there.
     Read(ReadError),
@@ -46,6 +47,8 @@ pub enum ParseError {
         end: usize,
     },
 }
+
+impl Error for ParseError {}
 
 impl From<ReadError> for ParseError {
     ghost from_gives = { λ e result. result ≡ error.Read e };

@@ -1,5 +1,7 @@
 //! Shows why a text with expressions can't be read, and where.
-ghost use Rattle.std.specs.Prelude.{◌≡◌, string_bytes, IfOk, None};
+ghost use Rattle.std.specs.Prelude.{◌≡◌, string_bytes, IfOk, None, Some};
+ghost use Rattle.std.specs.Fmt.{WritesOnOk};
+ghost use Rattle.cedar_text_lexer.specs.Messages.{at_byte};
 ghost use Rattle.cedar_text_lexer.specs.Positions.{BeginsWith, headline_of};
 ghost use Rattle.cedar_text_parser.specs.Messages as Messages;
 
@@ -7,6 +9,8 @@ use crate::errors::ParseError;
 use cedar_names::CallStyle;
 use cedar_text_lexer::show::{Position, locate, marked_line};
 use std::alloc::{AllocError, Global};
+use std::fmt;
+use std::fmt::Display;
 use std::rc::RcStr;
 
 /// Why the text can't be read: the line and the column, why, and below it the line itself, with the place marked under
@@ -76,6 +80,116 @@ pub fn message(alloc: Global, text: &str, error: &ParseError) -> Result<String, 
             ..
         } => other_number(alloc, name, *expected, *found),
     }
+}
+
+/// What can be said without the text: at which byte, and why, as ``byte 0: `contain` is not a valid method``. The first
+/// byte is 0.
+impl fmt::Display for ParseError {
+    ghost output = { λ error. Some (Messages.error_text error) };
+
+    fn fmt<W: fmt::Write>(&self, f: &mut fmt::Formatter<W>) -> fmt::Result {
+        match self {
+            ParseError::Read(error) => error.fmt(f),
+            ParseError::UnknownFunction {
+                name,
+                style,
+                nearest,
+                start,
+                end: _,
+            } => write_unknown(name, *style, nearest, *start, f),
+            ParseError::WrongStyle {
+                name,
+                expected,
+                start,
+                end: _,
+            } => write_style(name, *expected, *start, f),
+            ParseError::WrongNumberOfArguments {
+                name,
+                expected,
+                found,
+                start,
+                end: _,
+            } => write_number(name, *expected, *found, *start, f),
+        }
+    }
+}
+
+fn write_unknown<W: fmt::Write>(
+    name: &str,
+    style: CallStyle,
+    nearest: &Option<RcStr>,
+    start: usize,
+    f: &mut fmt::Formatter<W>,
+) -> fmt::Result
+    ensures { WritesOnOk W.write_str_gives f.old result
+        (at_byte start (Messages.unknown_message name.now style nearest.now)) f.new }
+{
+    match nearest {
+        None => write_alone(name, style, start, f),
+        Some(nearest) => write_meant(name, style, nearest.as_str(), start, f),
+    }
+}
+
+fn write_alone<W: fmt::Write>(
+    name: &str,
+    style: CallStyle,
+    start: usize,
+    f: &mut fmt::Formatter<W>,
+) -> fmt::Result
+    ensures { WritesOnOk W.write_str_gives f.old result
+        (at_byte start (Messages.unknown_message name.now style None)) f.new }
+{
+    let kind = style_name(style);
+    write!(f, "byte {start}: `{name}` is not a valid {kind}")
+}
+
+fn write_meant<W: fmt::Write>(
+    name: &str,
+    style: CallStyle,
+    meant: &str,
+    start: usize,
+    f: &mut fmt::Formatter<W>,
+) -> fmt::Result
+    ensures { WritesOnOk W.write_str_gives f.old result
+        (at_byte start (Messages.meant_message name.now style meant.now)) f.new }
+{
+    let kind = style_name(style);
+    write!(
+        f,
+        "byte {start}: `{name}` is not a valid {kind}; did you mean `{meant}`?"
+    )
+}
+
+fn write_style<W: fmt::Write>(
+    name: &str,
+    expected: CallStyle,
+    start: usize,
+    f: &mut fmt::Formatter<W>,
+) -> fmt::Result
+    ensures { WritesOnOk W.write_str_gives f.old result
+        (at_byte start (Messages.style_message name.now expected)) f.new }
+{
+    let kind = style_name(expected);
+    let other = other_name(expected);
+    write!(f, "byte {start}: `{name}` is a {kind}, not a {other}")
+}
+
+fn write_number<W: fmt::Write>(
+    name: &str,
+    expected: usize,
+    found: usize,
+    start: usize,
+    f: &mut fmt::Formatter<W>,
+) -> fmt::Result
+    ensures { WritesOnOk W.write_str_gives f.old result
+        (at_byte start (Messages.number_message name.now expected found)) f.new }
+{
+    let arguments = arguments_name(expected);
+    let are = are(found);
+    write!(
+        f,
+        "byte {start}: `{name}` takes {expected} {arguments}, but {found} {are} given"
+    )
 }
 
 fn unknown(
