@@ -1,5 +1,5 @@
 //! Policies of a text.
-ghost use Rattle.std.specs.Prelude.{◌≡◌, ◌+◌, ◌++◌, ◌∷◌, ℕ, List, [], length, IfOk, IfErr, IfSome, IfNone};
+ghost use Rattle.std.specs.Prelude.{◌≡◌, ◌+◌, ◌<◌, ◌≤◌, ◌++◌, ◌∷◌, ℕ, List, [], length, IfOk, IfErr, IfSome, IfNone};
 ghost use Rattle.cedar_layers.specs.Policies.{policy_id_text};
 ghost use Rattle.cedar_text_lexer.specs.declared.tokens.Kind.TheVariants as kind;
 ghost use Rattle.cedar_text_lexer.specs.Sequence as Tokens;
@@ -162,17 +162,16 @@ fn read_tokens(
     ensures ok { IfOk result (IsRead (knowledge functions.now) source.now.text limit) }
     ensures told { IfOk result (λ r. AreTold (knowledge functions.now) source.now.text limit r.errors.items) }
 {
+    let count = source.len();
     let mut reading = Reading::new(alloc);
     let mut index = 0;
-    for number in 0..source.len() {
-        if index >= source.len() || index + 1 == source.len() {
-            let read = reading.end_reading(source, index)?;
-            return Ok(read);
-        }
+    let mut number = 0;
+    while index + 1 < count {
         index = reading.take(alloc, source, index, number, limit, functions)?;
+        number = number + 1;
     }
-    let rest = reading.end_reading(source, index)?;
-    Ok(rest)
+    let read = reading.end_reading(source, index)?;
+    Ok(read)
 }
 
 impl Reading {
@@ -198,6 +197,9 @@ impl Reading {
         limit: usize,
         functions: &Functions,
     ) -> Result<usize, AllocError>
+        requires { index + 1 < length source.now.tokens }
+        ensures moves { IfOk result (λ next. index < next) }
+        ensures within { IfOk result (λ next. next ≤ length source.now.tokens) }
         ensures ok { IfOk result (λ next.
             IsSoFar (knowledge functions.now) source.now limit index number self.old →
             IsSoFar (knowledge functions.now) source.now limit next (number + 1) self.new) }
@@ -242,6 +244,9 @@ impl Reading {
         index: usize,
         error: ParseError,
     ) -> Result<usize, AllocError>
+        requires { index + 1 < length source.now.tokens }
+        ensures moves { IfOk result (λ next. index < next) }
+        ensures within { IfOk result (λ next. next ≤ length source.now.tokens) }
         ensures ok { (k : Knowledge) (limit i n : ℕ) →
             IfOk result (λ _. IsSoFar k source.now limit i n self.new) }
         ensures told { IfOk result (λ _. self.new.errors.items ≡ self.old.errors.items ++ error ∷ []) }
@@ -373,16 +378,16 @@ fn place_of(error: &ParseError) -> Option<usize> {
 }
 
 // The number of the token behind the first `;` that does not end before this byte; of the last token, if there is none.
-fn behind_semicolon(tokens: &[Token], from: usize, start: usize) -> usize {
+fn behind_semicolon(tokens: &[Token], from: usize, start: usize) -> usize
+    requires { from + 1 < length tokens.now }
+    ensures moves { from < result }
+    ensures within { result ≤ length tokens.now }
+{
     for index in from..tokens.len() {
         let token = tokens[index];
         if token.kind == Kind::Semicolon && token.start >= start {
             return index + 1;
         }
     }
-    if tokens.is_empty() {
-        0
-    } else {
-        tokens.len() - 1
-    }
+    tokens.len() - 1
 }

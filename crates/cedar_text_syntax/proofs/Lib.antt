@@ -10,4 +10,4 @@ pub mod Turns
 mod Counting
 mod Joining
 mod PolicyTurns
-mod Within
+pub mod Within

@@ -17,7 +17,7 @@ use Rattle.cedar_text_syntax.specs.PolicyGrammar.{one_entity, one_entity_more, n
 use Rattle.cedar_text_syntax.specs.PolicyGrammar.{IsConstraint, unconstrained, compared, in_list, of_type, of_type_in, IsClause}
 use Rattle.cedar_text_syntax.specs.PolicyGrammar.{clause, AreClauses, one_clause, one_clause_more, HasConditions}
 use Rattle.cedar_text_syntax.specs.PolicyGrammar.{no_clause, some_clauses, AreAnnotations, no_annotation, one_key, one_value}
-use Rattle.cedar_text_syntax.specs.PolicyGrammar.{scope, IsPolicy, policy, PolicyTree}
+use Rattle.cedar_text_syntax.specs.PolicyGrammar.{IsScope, scope, IsPolicy, policy, PolicyTree}
 use Rattle.cedar_text_syntax.specs.PolicyReading.{AreBetween}
 
 -- ---- what is derived takes tokens, and ends with the last of them
@@ -94,6 +94,13 @@ condition_grows (no_clause k) = omega arith
 condition_grows (some_clauses hs k) =
     let g = clauses_reach hs in
     omega (arith, g.before, g.order)
+
+scope_grows : {all : List Token} {i j : ℕ} {p q r : Tree} → IsScope all i j p q r → i < j
+scope_grows (scope k a l b m c n) = omega (arith, constraint_grows a, constraint_grows b, constraint_grows c)
+
+-- a policy ends behind the token with which it begins
+pub policy_grows : {all : List Token} {i j : ℕ} {t : PolicyTree} → IsPolicy all i j t → i < j
+policy_grows (policy xs e s c) = omega (arith, annotations_grow xs, scope_grows s, condition_grows c)
 
 -- ---- places
 
