@@ -1,5 +1,6 @@
 -- How what is answered is composed of what the calls below answer.
-use Rattle.std.proofs.Common.{◌≡◌, subst, Result, Ok, Err, IfOk}
+use Rattle.std.proofs.Common.{◌≡◌, sym, subst, Result, Ok, Err, IfOk}
+use Rattle.std.specs.Result.{IsErrAnd}
 use Rattle.std.specs.Prelude.{IfErr}
 use Rattle.std.specs.declared.alloc.AllocError.{AllocError}
 use Rattle.cedar_model.specs.Rules.{StoredCalls}
@@ -25,6 +26,11 @@ of_ok P Q f (Err e) h = tt
 pub of_err : {A E : Type 0} (P Q : E → Type 0) → ((e : E) → P e → Q e) → (r : Result A E) → IfErr r P → IfErr r Q
 of_err P Q f (Ok a) h = tt
 of_err P Q f (Err e) h = f e h
+
+-- a refusal that is handed up is the one that was met
+pub handed_up : {A E : Type 0} (r : Result A E) (e : E) (P : E → Type 0) → IsErrAnd r (λ y. y ≡ e) → P e → IfErr r P
+handed_up (Ok a) e P is h = tt
+handed_up (Err y) e P is h = subst P (sym is) h
 
 -- the response of an authorizer that is configured so, and asked so
 module _ (X : world.Extensions) (calls : StoredCalls) (ps : PolicySet) (s : Entities) (r : Request) (w : Way) where

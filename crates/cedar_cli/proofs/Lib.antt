@@ -6,3 +6,4 @@ mod Exact
 mod Words
 mod Reasoned
 mod Counting
+mod Valued

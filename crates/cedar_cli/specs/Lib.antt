@@ -5,3 +5,5 @@ pub mod Questions
 pub mod Documents
 pub mod Authorized
 pub mod Reasons
+pub mod Visible
+pub mod Evaluated

@@ -1,4 +1,17 @@
 //! What an expression evaluates to.
+ghost use Rattle.std.specs.Prelude.{◌≡◌, ◌≢◌, true, IfOk, IfErr, string_bytes};
+ghost use Rattle.cedar_model.specs.Failures.{out_of_memory, fails, answers_value};
+ghost use Rattle.cedar_errors.specs.Failures.{failure_of};
+ghost use Rattle.cedar_errors.specs.Answers.{value_answer};
+ghost use Rattle.cedar_extensions.specs.Extensions.{extensions_view, calls_of};
+ghost use Rattle.cedar_functions.specs.Functions.{these, signatures_of};
+ghost use Rattle.cedar_text_parser.specs.Reading.{IsRead};
+ghost use Rattle.cedar_cli.specs.Evaluated.{IsRequestOr, AreRequestOrPartsUnread, IsAnswerBy, IsAnswerOver, IsAnswerOf, IsTextLine, IsLimitOr};
+ghost use Rattle.cedar_cli.specs.Evaluated.{IsValuePrinted, IsEvaluated, IsExpressionUnread, IsUnvaluedOver};
+ghost use Rattle.cedar_cli.specs.Evaluated.{IsUnvalued, IsUnevaluated};
+ghost use Rattle.cedar_cli.specs.Questions.{levels};
+ghost use Rattle.cedar_cli.specs.Reasons.{IsToldFor};
+
 use crate::asked::{Asked, Source};
 use crate::decisions::Printed;
 use crate::limits::{LEVELS, expression_limit, push_limit};
@@ -24,7 +37,10 @@ pub fn evaluate_expression(
     asked: &Asked<'_, '_>,
     limit: Option<usize>,
     is_json: bool,
-) -> Result<Printed, Refusal> {
+) -> Result<Printed, Refusal>
+    ensures answered { IfOk result (IsEvaluated source.entry.text.now asked.now limit is_json) }
+    ensures refused { IfErr result (IsToldFor (IsUnevaluated source.entry.text.now asked.now limit is_json)) }
+{
     let extensions = Extensions::all_available();
     let expr = expression(alloc, source, &extensions)?;
     let mut warnings = String::new(alloc);
@@ -49,7 +65,11 @@ fn expression(
     alloc: Global,
     source: Source<'_>,
     extensions: &Extensions<'_>,
-) -> Result<Expr, Refusal> {
+) -> Result<Expr, Refusal>
+    ensures read { IfOk result (IsRead (these (signatures_of extensions.now)) source.entry.text.now levels) }
+    ensures refused { IfErr result (IsToldFor
+        (IsExpressionUnread (these (signatures_of extensions.now)) source.entry.text.now)) }
+{
     let functions = Functions::of(alloc, extensions)?;
     let expr = match parse_expr(alloc, source.text, LEVELS, &functions) {
         Ok(expr) => Ok(expr),
@@ -67,7 +87,12 @@ fn evaluated_with(
     limit: Option<usize>,
     extensions: &Extensions<'_>,
     warnings: &mut String,
-) -> Result<Value, Refusal> {
+) -> Result<Value, Refusal>
+    ensures value { IfOk result (λ v. IsAnswerOf (extensions_view extensions.now) (calls_of extensions.now) expr.now
+        asked.now limit (answers_value v.what)) }
+    ensures refused { IfErr result (IsToldFor (IsUnvalued (extensions_view extensions.now) (calls_of extensions.now)
+        expr.now asked.now limit)) }
+{
     let store = given_store(alloc, asked, extensions, warnings)?;
     let value = evaluated_over(alloc, source, expr, &store, asked, limit, extensions);
     drop(store);
@@ -82,15 +107,27 @@ fn evaluated_over(
     asked: &Asked<'_, '_>,
     limit: Option<usize>,
     extensions: &Extensions<'_>,
-) -> Result<Value, Refusal> {
+) -> Result<Value, Refusal>
+    ensures value { IfOk result (λ v. IsAnswerOver (extensions_view extensions.now) (calls_of extensions.now) expr.now
+        store.now.entities asked.now limit (answers_value v.what)) }
+    ensures refused { IfErr result (IsToldFor (IsUnvaluedOver (extensions_view extensions.now)
+        (calls_of extensions.now) expr.now store.now.entities asked.now limit)) }
+{
     let request = request_asked(alloc, asked, extensions)?;
-    let limit = match limit {
-        Some(limit) => limit,
-        None => expression_limit(expr, &request, store.height),
-    };
-    match value_of(alloc, expr, request, &store.entities, limit, extensions) {
+    let within = limit_or(limit, expr, &request, store);
+    match value_of(alloc, expr, request, &store.entities, within, extensions) {
         Ok(value) => Ok(value),
-        Err(error) => Err(refuse_evaluation(alloc, source, limit, &error)),
+        Err(error) => Err(refuse_evaluation(alloc, source, within, &error)),
+    }
+}
+
+// The limit that is set, or what the expression can need.
+fn limit_or(limit: Option<usize>, expr: &Expr, request: &Request, store: &Store) -> usize
+    ensures { IsLimitOr limit result }
+{
+    match limit {
+        Some(limit) => limit,
+        None => expression_limit(expr, request, store.height),
     }
 }
 
@@ -98,7 +135,12 @@ fn request_asked(
     alloc: Global,
     asked: &Asked<'_, '_>,
     extensions: &Extensions<'_>,
-) -> Result<Request, Refusal> {
+) -> Result<Request, Refusal>
+    ensures asked { IfOk result (IsRequestOr (extensions_view extensions.now) (calls_of extensions.now)
+        asked.now.request asked.now) }
+    ensures refused { IfErr result (IsToldFor (AreRequestOrPartsUnread (extensions_view extensions.now) (calls_of extensions.now)
+        asked.now.request asked.now)) }
+{
     match asked.request {
         Some(_) => whole_request(alloc, asked, extensions),
         None => request_with_context(alloc, asked, extensions),
@@ -112,7 +154,10 @@ fn value_of(
     entities: &Entities,
     limit: usize,
     extensions: &Extensions<'_>,
-) -> Result<Value, EvaluationError> {
+) -> Result<Value, EvaluationError>
+    ensures { IsAnswerBy (extensions_view extensions.now) (calls_of extensions.now) expr.now entities.now request limit
+        (value_answer result) }
+{
     let evaluator = Evaluator::new(alloc, request, entities, extensions, limit)?;
     let slots = SlotEnv::new(alloc);
     let value = evaluator.interpret(alloc, expr, &slots);
@@ -127,7 +172,10 @@ fn print_value(
     value: &Value,
     is_json: bool,
     warnings: String,
-) -> Result<Printed, Refusal> {
+) -> Result<Printed, Refusal>
+    ensures printed { IfOk result (IsValuePrinted is_json value.now.what) }
+    ensures refused { IfErr result (IsToldFor (is_json ≡ true)) }
+{
     let output = if is_json {
         readable_line(alloc, source, value)?
     } else {
@@ -141,7 +189,9 @@ fn print_value(
 }
 
 // The value in Cedar's text, as `evaluate` reads it back.
-fn value_line(alloc: Global, value: &Value) -> Result<String, AllocError> {
+fn value_line(alloc: Global, value: &Value) -> Result<String, AllocError>
+    ensures { IfOk result (λ line. IsTextLine value.now.what (string_bytes line)) }
+{
     let expr: Expr = value.to_expr(alloc)?;
     let text = to_cedar(alloc, &expr);
     drop(expr);
@@ -156,10 +206,13 @@ fn refuse_evaluation(
     source: Source<'_>,
     limit: usize,
     error: &EvaluationError,
-) -> Refusal {
-    match error {
-        EvaluationError::Memory(_) => Refusal::Memory,
-        _ => refuse_with_lines(failed_lines(alloc, source, limit, error)),
+) -> Refusal
+    ensures { IsToldFor (failure_of error.now ≢ out_of_memory) result }
+{
+    if error.is_out_of_memory() {
+        Refusal::Memory
+    } else {
+        refuse_with_lines(failed_lines(alloc, source, limit, error))
     }
 }
 

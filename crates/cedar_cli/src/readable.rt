@@ -2,6 +2,7 @@
 ghost use Rattle.std.specs.Prelude.{◌≡◌, ◌++◌, IfOk, codes, string_bytes};
 ghost use Rattle.json.specs.Print.{print};
 ghost use Rattle.json.specs.Tree.{json_tokens};
+ghost use Rattle.cedar_model.specs.Values.{expression_of};
 ghost use Rattle.cedar_expressions.specs.View.{view};
 ghost use Rattle.cedar_json_reader.specs.Said.{is_reserved_key};
 ghost use Rattle.cedar_json_writer.specs.Written.{written};
@@ -23,14 +24,19 @@ pub(crate) fn readable_line(
     alloc: Global,
     source: Source<'_>,
     value: &Value,
-) -> Result<String, Refusal> {
+) -> Result<String, Refusal>
+    ensures { IfOk result (λ s. string_bytes s
+        ≡ print (json_tokens (written (expression_of value.now.what))) ++ codes "\n") }
+{
     let expr: Expr = value.to_expr(alloc)?;
     let line = readable_line_of(alloc, source, &expr);
     drop(expr);
     line
 }
 
-fn readable_line_of(alloc: Global, source: Source<'_>, expr: &Expr) -> Result<String, Refusal> {
+fn readable_line_of(alloc: Global, source: Source<'_>, expr: &Expr) -> Result<String, Refusal>
+    ensures { IfOk result (λ s. string_bytes s ≡ print (json_tokens (written (view expr.now))) ++ codes "\n") }
+{
     if let Some(key) = reserved_key(expr) {
         return Err(has_reserved_key(alloc, source, key));
     }
