@@ -148,12 +148,12 @@ pub fn authorize(
     functions_are_computed();
     let extensions = Extensions::all_available();
     let parsed = read_over(alloc, policies, &extensions)?;
-    let printed = authorized_of(alloc, policies, &parsed, asked, way, &extensions);
+    let printed = authorize_parsed(alloc, policies, &parsed, asked, way, &extensions);
     drop(parsed);
     printed
 }
 
-fn authorized_of(
+fn authorize_parsed(
     alloc: Global,
     source: Source<'_>,
     parsed: &ParsedPolicies,
@@ -174,10 +174,10 @@ fn authorized_of(
         policies: &parsed.policies,
         way,
     };
-    authorized_by(alloc, deciding, asked, extensions, warnings)
+    authorize_over_given_store(alloc, deciding, asked, extensions, warnings)
 }
 
-fn authorized_by(
+fn authorize_over_given_store(
     alloc: Global,
     deciding: Deciding<'_>,
     asked: &Asked<'_, '_>,
@@ -190,7 +190,7 @@ fn authorized_by(
         (IsAskedUnread (extensions_view extensions.now) (calls_of extensions.now) asked.now)) }
 {
     let store = given_store(alloc, asked, extensions, &mut warnings)?;
-    let printed = authorized_over(
+    let printed = authorize_over_store(
         alloc,
         deciding,
         &store.entities,
@@ -202,7 +202,7 @@ fn authorized_by(
     printed
 }
 
-fn authorized_over(
+fn authorize_over_store(
     alloc: Global,
     deciding: Deciding<'_>,
     entities: &Entities,

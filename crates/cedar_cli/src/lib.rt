@@ -55,7 +55,7 @@ pub use asked::{Asked, Source, Step, Way};
 pub use cedar_policy_core::authorizer::{Decision, ErrorHandling};
 pub use decisions::{Printed, authorize, status_of};
 pub use evaluations::evaluate_expression;
-pub use partial::partially_authorized;
+pub use partial::partially_authorize;
 pub use policies::{check_format, check_policies, format_policies};
 pub use refusal::{Refusal, refuse_with_line};
 pub use run::{Answer, answer_command};

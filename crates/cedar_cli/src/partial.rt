@@ -27,7 +27,7 @@ use std::rc::RcStr;
 /// entity that a store lacked is itself. A step that names no unknown and brings no entities is not taken. The status
 /// is that of the last decision, 4 where that is not known. The errors of policies are told as warnings, and so is what
 /// does not show in the answer; as JSON the errors stand in the value.
-pub fn partially_authorized(
+pub fn partially_authorize(
     alloc: Global,
     policies: Source<'_>,
     asked: &Asked<'_, '_>,
@@ -40,7 +40,7 @@ pub fn partially_authorized(
     match Extensions::with_standard(alloc, all.as_slice()) {
         Ok(extensions) => {
             let parsed = read_over(alloc, policies, &extensions)?;
-            let printed = partly(alloc, policies, &parsed, asked, steps, way, &extensions);
+            let printed = partially_authorize_parsed(alloc, policies, &parsed, asked, steps, way, &extensions);
             drop(parsed);
             printed
         }
@@ -48,7 +48,7 @@ pub fn partially_authorized(
     }
 }
 
-fn partly(
+fn partially_authorize_parsed(
     alloc: Global,
     source: Source<'_>,
     parsed: &ParsedPolicies,
@@ -65,10 +65,10 @@ fn partly(
         policies: &parsed.policies,
         way,
     };
-    partly_by(alloc, deciding, asked, steps, extensions, warnings)
+    partially_authorize_over_given_store(alloc, deciding, asked, steps, extensions, warnings)
 }
 
-fn partly_by(
+fn partially_authorize_over_given_store(
     alloc: Global,
     deciding: Deciding<'_>,
     asked: &Asked<'_, '_>,

@@ -3,7 +3,7 @@ use crate::commands::cedar;
 use crate::files::Texts;
 use crate::{
     Asked, ErrorHandling, Printed, Refusal, Source, Way, authorize, check_format, check_policies,
-    evaluate_expression, format_policies, partially_authorized,
+    evaluate_expression, format_policies, partially_authorize,
 };
 use clap::error::ErrorKind;
 use clap::{ArgMatches, Error};
@@ -133,7 +133,7 @@ fn partial(
         matches.get_flag("partial-step"),
         max_ancestors(matches),
     )?;
-    let printed = partially_authorized(alloc, texts.policies(), asked, &steps, way(matches));
+    let printed = partially_authorize(alloc, texts.policies(), asked, &steps, way(matches));
     drop(steps);
     printed
 }

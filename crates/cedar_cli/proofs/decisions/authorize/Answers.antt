@@ -52,7 +52,7 @@ returns-clause-answered c =
       allows = λ unlimited. allowed_exactly (mode_view w.error_handling) parsed.policies by.entities by.answered.request
           response w p (exact unlimited) by.answered.printed;
     })
-    c.authorized_of-printed.result c.authorized_of-printed.ensures.answered
+    c.authorize_parsed-printed.result c.authorize_parsed-printed.ensures.answered
 
 pub returns-clause-refused : goal.returns-clause-refused
 returns-clause-refused c =
@@ -66,4 +66,4 @@ returns-clause-refused c =
     (λ h. for_question
     (subst (λ calls. IsAskedUnread standard_extensions calls q) (calls_alone x none there)
     (subst (λ v. IsAskedUnread v (calls_of x) q) (view_alone x none there) h))) r)
-    c.authorized_of-printed.result c.authorized_of-printed.ensures.refused
+    c.authorize_parsed-printed.result c.authorize_parsed-printed.ensures.refused

@@ -3,7 +3,7 @@ use Rattle.cedar_cli.specs.Authorized.{IsAnsweredBy, IsAnsweredOver}
 use Rattle.cedar_cli.specs.Reasons.{IsRequestUnread, IsAskedUnread, for_request}
 use Rattle.cedar_cli.proofs.Composed.{of_ok, of_err}
 use Rattle.cedar_cli.proofs.Reasoned.{because}
-use Rattle.cedar_cli.proofs.decisions.authorized_by.Goals as goal
+use Rattle.cedar_cli.proofs.decisions.authorize_over_given_store.Goals as goal
 
 pub returns-clause-answered : goal.returns-clause-answered
 returns-clause-answered g c =
@@ -13,7 +13,7 @@ returns-clause-answered g c =
     of_ok (IsAnsweredOver (extensions_view x) (calls_of x) ps s c.args.asked.now c.args.deciding.way)
     (IsAnsweredBy (extensions_view x) (calls_of x) ps c.args.asked.now c.args.deciding.way)
     (λ p h. record { entities = s; store_is = c.in_ok-store.ensures.given; answered = h })
-    c.authorized_over-printed.result c.authorized_over-printed.ensures.answered
+    c.authorize_over_store-printed.result c.authorize_over_store-printed.ensures.answered
 
 pub returns-clause-refused : goal.returns-clause-refused
 returns-clause-refused g c =
@@ -22,4 +22,4 @@ returns-clause-refused g c =
     of_err _ _
     (λ r. because (IsRequestUnread (extensions_view x) (calls_of x) q)
     (IsAskedUnread (extensions_view x) (calls_of x) q) (λ h. for_request h) r)
-    c.authorized_over-printed.result c.authorized_over-printed.ensures.refused
+    c.authorize_over_store-printed.result c.authorize_over_store-printed.ensures.refused

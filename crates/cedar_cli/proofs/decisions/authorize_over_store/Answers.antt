@@ -1,4 +1,4 @@
-use Rattle.cedar_cli.proofs.decisions.authorized_over.Goals as goal
+use Rattle.cedar_cli.proofs.decisions.authorize_over_store.Goals as goal
 
 pub returns-clause-answered : goal.returns-clause-answered
 returns-clause-answered g c = record {
