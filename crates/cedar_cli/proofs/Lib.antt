@@ -7,3 +7,6 @@ mod Words
 mod Reasoned
 mod Counting
 mod Valued
+mod Opening
+mod Stepping
+mod Staged

@@ -4,6 +4,9 @@ pub mod Standard
 pub mod Questions
 pub mod Documents
 pub mod Authorized
+pub mod Steps
+pub mod Stages
+pub mod Inputs
 pub mod Reasons
 pub mod Visible
 pub mod Evaluated

@@ -79,6 +79,28 @@ IsWholeOr X calls None q r = IsWhole X calls q r
 abbrev pub IsWholeRequest : world.Extensions → StoredCalls → Asked → Request → Type 0
 IsWholeRequest X calls q r = IsWholeOr X calls q.request q r
 
+-- the context that the JSON says; where none is given, it is unknown
+abbrev pub IsContextGiven : world.Extensions → StoredCalls → Option Source → Option Context → Type 0
+IsContextGiven X calls None c = c ≡ None
+IsContextGiven X calls (Some s) None = ⊥
+IsContextGiven X calls (Some s) (Some c) = SaysSo s.text.now (λ j. IsContextOf X calls levels (context_said j) c)
+
+-- the request of what is given, in which all else is unknown
+pub record IsOfGivenParts (X : world.Extensions) (calls : StoredCalls) (q : Asked) (r : Request) : Type 0 where
+  pub principal : IsEntryOf q.principal q.principal_type (request_parts r).0
+  pub action : IsEntryOf q.action None (request_parts r).1
+  pub resource : IsEntryOf q.resource q.resource_type (request_parts r).2
+  pub context : IsContextGiven X calls q.context (request_parts r).3
+
+-- the request that the JSON says or, where none is given, that of the parts that are given
+abbrev pub IsPartialOr : world.Extensions → StoredCalls → Option Source → Asked → Request → Type 0
+IsPartialOr X calls (Some s) q r = SaysSo s.text.now (λ j. IsRequestOf X calls levels j r)
+IsPartialOr X calls None q r = IsOfGivenParts X calls q r
+
+-- the request that is asked, which may be known in part
+abbrev pub IsPartialRequest : world.Extensions → StoredCalls → Asked → Request → Type 0
+IsPartialRequest X calls q r = IsPartialOr X calls q.request q r
+
 -- ---- stores
 
 -- the store of these entities, each with all entities that its parents lead to, where none leads to itself

@@ -116,6 +116,14 @@ IsUnreadOr X calls None q = IsWholeUnread X calls q
 abbrev pub IsRequestUnread : world.Extensions → StoredCalls → Asked → Type 0
 IsRequestUnread X calls q = IsUnreadOr X calls q.request q
 
+abbrev pub IsPartialUnreadOr : world.Extensions → StoredCalls → Option Source → Asked → Type 0
+IsPartialUnreadOr X calls (Some s) q = IsJsonUnread s.text.now (λ j e. IsRequestRefusal X calls levels j e)
+IsPartialUnreadOr X calls None q = ArePartsUnread X calls q
+
+-- the same of a request that may be known in part: no part of it has to be given
+abbrev pub IsPartialUnread : world.Extensions → StoredCalls → Asked → Type 0
+IsPartialUnread X calls q = IsPartialUnreadOr X calls q.request q
+
 -- the parents of an entity lead back to it
 pub record IsCyclic (es : List Entity) : Type 0 where
   pub name : EntityName

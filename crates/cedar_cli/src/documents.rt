@@ -1,14 +1,17 @@
 #![tactic(auto, using(cedar_json_writer::proofs::Trees::trees))]
 //! Answers as JSON.
-ghost use Rattle.std.specs.Prelude.{IfOk};
+ghost use Rattle.std.specs.Prelude.{IfOk, OnOk, [], map};
 ghost use Rattle.cedar_decisions.specs.Decisions.{decision_view};
 ghost use Rattle.cedar_json_writer.specs.Trees.{json_view};
 ghost use Rattle.cedar_cli.specs.Documents.{IsResponseDocument};
+ghost use Rattle.cedar_cli.specs.Stages.{IsStageDocument, AreDocuments, AreDocumented};
+ghost use Rattle.cedar_cli.specs.Inputs.{AddsDocument};
 
 use crate::asked::Step;
 use crate::places::Places;
 use crate::policies::annotated_id;
 use crate::stages::Stages;
+use crate::steps::{Taken, response_after};
 use crate::warnings::Deciding;
 use cedar_policy_core::ast::{Policy, PolicyID, PolicySet};
 use cedar_policy_core::authorizer::json::{decision_to_json, put_error_within, put_known};
@@ -58,21 +61,35 @@ pub(crate) fn stages_document(
     alloc: Global,
     deciding: Deciding<'_>,
     stages: &Stages<'_>,
-) -> Result<JsonValue, AllocError> {
+) -> Result<JsonValue, AllocError>
+    ensures { IfOk result (λ d. AreDocumented stages.now.first stages.now.later.items (json_view d)) }
+{
     let first = stage_document(alloc, deciding, None, &stages.first)?;
-    if stages.inputs.is_empty() {
+    if stages.later.as_slice().is_empty() {
         return Ok(first);
     }
     let mut all: Vec<JsonValue> = Vec::new(alloc);
     put_item(first, &mut all)?;
-    let mut response = &stages.first;
-    'steps: for (input, next) in stages.inputs.iter().zip(stages.later.iter()) {
-        if let Some(next) = next {
-            response = next;
-        }
-        put_stage(alloc, deciding, &input.step, response, &mut all)?;
-    }
+    put_stages(alloc, deciding, &stages.first, &stages.later, &mut all)?;
     Ok(JsonValue::Array(all))
+}
+
+fn put_stages(
+    alloc: Global,
+    deciding: Deciding<'_>,
+    first: &PartialResponse,
+    later: &[Taken<'_>],
+    all: &mut Vec<JsonValue>,
+) -> Result<(), AllocError>
+    ensures { AreDocuments first.now [] (map json_view all.old.items)
+        → OnOk result (AreDocuments first.now later.now (map json_view all.new.items)) }
+{
+    let mut response = first;
+    'later: for taken in later {
+        response = response_after(&taken.response, response);
+        put_stage(alloc, deciding, &taken.step, response, all)?;
+    }
+    Ok(())
 }
 
 fn put_stage(
@@ -81,7 +98,10 @@ fn put_stage(
     step: &Step<'_>,
     response: &PartialResponse,
     all: &mut Vec<JsonValue>,
-) -> Result<(), AllocError> {
+) -> Result<(), AllocError>
+    ensures { OnOk result (AddsDocument response.now (map json_view all.old.items)
+        (map json_view all.new.items)) }
+{
     let stage = stage_document(alloc, deciding, Some(step), response)?;
     put_item(stage, all)
 }
@@ -91,20 +111,31 @@ fn stage_document(
     deciding: Deciding<'_>,
     step: Option<&Step<'_>>,
     response: &PartialResponse,
-) -> Result<JsonValue, AllocError> {
+) -> Result<JsonValue, AllocError>
+    ensures { IfOk result (λ d. IsStageDocument response.now (json_view d)) }
+{
     let mut members: Vec<(RcStr, JsonValue)> = Vec::new(alloc);
     put_step(alloc, step, &mut members)?;
     put_known(alloc, response, &mut members)?;
     let errors = errors_as_json(alloc, deciding, &response.errors)?;
     put_member(alloc, "errors", errors, &mut members)?;
+    let names = stage_names(alloc, deciding.policies, response)?;
+    put_member(alloc, "names", names, &mut members)?;
+    Ok(JsonValue::Object(members))
+}
+
+// The names of the policies whose ids stand in what is known of a response.
+fn stage_names(
+    alloc: Global,
+    policies: &PolicySet,
+    response: &PartialResponse,
+) -> Result<JsonValue, AllocError> {
     let mut named: BTreeSet<PolicyID> = BTreeSet::new(alloc);
     name_policies(response.may_be_determining(), &mut named)?;
     name_policies(response.must_be_determining(), &mut named)?;
     name_policies(response.nontrivial_residuals(), &mut named)?;
     name_errors(&response.errors, &mut named)?;
-    let names = names_as_json(alloc, deciding.policies, &named)?;
-    put_member(alloc, "names", names, &mut members)?;
-    Ok(JsonValue::Object(members))
+    names_as_json(alloc, policies, &named)
 }
 
 // The files of the step, at `step`.

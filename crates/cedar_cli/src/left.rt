@@ -1,4 +1,11 @@
 //! What is left open in a partial response.
+ghost use Rattle.std.specs.Prelude.{◌≡◌, ◌++◌, ◌∷◌, [], map, IfOk, OnOk};
+ghost use Rattle.std.specs.Rc.{rc_str_bytes};
+ghost use Rattle.cedar_model.specs.Settings.{printed_entity};
+ghost use Rattle.cedar_names.specs.Names.{uid_name};
+ghost use Rattle.cedar_unknowns.specs.Occurrences.{asked, asked_each};
+ghost use Rattle.cedar_cli.specs.Steps.{entities_lacked, names_asked, open_names};
+
 use cedar_policy_core::ast::{EntityUID, Unknown, Unknowns};
 use cedar_policy_core::authorizer::PartialResponse;
 use std::alloc::{AllocError, Global};
@@ -45,7 +52,9 @@ fn put_name(
 pub(crate) fn entities_left(
     alloc: Global,
     response: &PartialResponse,
-) -> Result<Vec<EntityUID>, AllocError> {
+) -> Result<Vec<EntityUID>, AllocError>
+    ensures { IfOk result (λ us. map uid_name us.items ≡ entities_lacked response.now) }
+{
     response.unknown_entities(alloc)
 }
 
@@ -54,8 +63,10 @@ pub(crate) fn entities_left(
 pub(crate) fn open_names(
     alloc: Global,
     response: &PartialResponse,
-) -> Result<BTreeSet<RcStr>, AllocError> {
-    let mut open: BTreeSet<RcStr> = BTreeSet::new(alloc);
+) -> Result<Vec<RcStr>, AllocError>
+    ensures { IfOk result (λ names. map rc_str_bytes names.items ≡ open_names response.now) }
+{
+    let mut open: Vec<RcStr> = Vec::new(alloc);
     let unknowns: Vec<Unknown> = response.unknowns(alloc)?;
     let pushed = open_unknowns(&unknowns, &mut open);
     drop(unknowns);
@@ -67,22 +78,50 @@ pub(crate) fn open_names(
     Ok(open)
 }
 
-fn open_unknowns(unknowns: &[Unknown], open: &mut BTreeSet<RcStr>) -> Result<(), AllocError> {
+fn open_unknowns(unknowns: &[Unknown], names: &mut Vec<RcStr>) -> Result<(), AllocError>
+    ensures { OnOk result (map rc_str_bytes names.new.items
+        ≡ map rc_str_bytes names.old.items ++ names_asked (asked_each unknowns.now)) }
+{
     'unknowns: for unknown in unknowns {
-        let name: RcStr = unknown.name.clone()?;
-        drop(open.insert(name)?);
+        open_unknown(unknown, names)?;
     }
+    Ok(())
+}
+
+fn open_unknown(unknown: &Unknown, names: &mut Vec<RcStr>) -> Result<(), AllocError>
+    ensures { OnOk result (map rc_str_bytes names.new.items
+        ≡ map rc_str_bytes names.old.items ++ (asked unknown.now).0 ∷ []) }
+{
+    let name: RcStr = unknown.name.clone()?;
+    names.push(name)?;
     Ok(())
 }
 
 fn open_entities(
     alloc: Global,
     entities: &[EntityUID],
-    open: &mut BTreeSet<RcStr>,
-) -> Result<(), AllocError> {
+    names: &mut Vec<RcStr>,
+) -> Result<(), AllocError>
+    ensures { OnOk result (map rc_str_bytes names.new.items
+        ≡ map rc_str_bytes names.old.items ++ map printed_entity (map uid_name entities.now)) }
+{
     'entities: for entity in entities {
-        let name = RcStr::from_string(format!(in alloc; "{entity}")?)?;
-        drop(open.insert(name)?);
+        open_entity(alloc, entity, names)?;
     }
     Ok(())
+}
+
+fn open_entity(alloc: Global, entity: &EntityUID, names: &mut Vec<RcStr>) -> Result<(), AllocError>
+    ensures { OnOk result (map rc_str_bytes names.new.items
+        ≡ map rc_str_bytes names.old.items ++ printed_entity (uid_name entity.now) ∷ []) }
+{
+    let name = text_of(alloc, entity)?;
+    names.push(name)?;
+    Ok(())
+}
+
+fn text_of(alloc: Global, entity: &EntityUID) -> Result<RcStr, AllocError>
+    ensures { IfOk result (λ t. rc_str_bytes t ≡ printed_entity (uid_name entity.now)) }
+{
+    Ok(RcStr::from_string(entity.to_string(alloc)?)?)
 }

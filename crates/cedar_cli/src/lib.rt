@@ -21,10 +21,14 @@
 //! the entities and the request that the texts say (`answered`: `specs/Authorized.antt` over `specs/Questions.antt`, with
 //! the functions of `specs/Standard.antt` and the JSON of `specs/Documents.antt`); without a limit, and where nothing is
 //! unknown, `ALLOW` stands first exactly where the policies allow. It refuses for the reasons of `specs/Reasons.antt`
-//! alone (`refused`). Each decision is printed with its status (`specs/Printing.antt`), and line and column are those of
-//! the byte (`specs/Noted.antt`). What `format` answers has the tokens and comments of its text (`format_policies`,
-//! `check_format`). A refused run has nothing to print by its type (`Answer`). The other public calls have no clause,
-//! but for `status_of`; what the commands print is tested by the tables of `cedar_test_cli`.
+//! alone (`refused`). `partially_authorize_with` is proved alike where it answers: the policies, the store and the request
+//! are those that the texts say, the responses those of a chain of steps, each by the map and the store that it names, the
+//! last has the headline, and the words of their decisions are printed in order (`answered`: `specs/Stages.antt` over
+//! `specs/Steps.antt`); `partially_authorize` hands it the standard functions and `unknown`. Each decision is printed with
+//! its status (`specs/Printing.antt`), and line and column are those of the byte (`specs/Noted.antt`). What `format`
+//! answers has the tokens and comments of its text (`format_policies`, `check_format`). A refused run has nothing to print
+//! by its type (`Answer`). The other public calls have no clause, but for `status_of`; what the commands print is tested
+//! by the tables of `cedar_test_cli`.
 #![tactic(auto)]
 
 mod ancestors;
@@ -55,7 +59,7 @@ pub use asked::{Asked, Source, Step, Way};
 pub use cedar_policy_core::authorizer::{Decision, ErrorHandling};
 pub use decisions::{Printed, authorize, status_of};
 pub use evaluations::evaluate_expression;
-pub use partial::partially_authorize;
+pub use partial::{partially_authorize, partially_authorize_with};
 pub use policies::{check_format, check_policies, format_policies};
 pub use refusal::{Refusal, refuse_with_line};
 pub use run::{Answer, answer_command};

@@ -1,16 +1,11 @@
 //! How many levels are evaluated, so that no policy that was read meets the limit.
 ghost use Rattle.std.specs.Prelude.{◌≡◌};
+ghost use Rattle.cedar_cli.specs.Stages.{levels_in};
 
 use crate::refusal::{Refusal, refuse_with_line};
-use cedar_policy_core::ast::{Expr, PolicySet, Request, Value};
-use cedar_policy_core::authorizer::PartialResponse;
-use cedar_policy_core::authorizer::heights::{
-    expr_height, levels_for, levels_for_step, mapped_height, policies_height, request_height,
-    residuals_height,
-};
+use cedar_policy_core::ast::{Expr, Request};
+use cedar_policy_core::authorizer::heights::{expr_height, levels_for, request_height};
 use std::alloc::{AllocError, Global};
-use std::collections::HashMap;
-use std::rc::RcStr;
 
 /// How many levels what is read may have: each operator, call, set or record is one more than its highest part.
 pub(crate) const LEVELS: usize = 4000;
@@ -31,21 +26,12 @@ pub(crate) fn expression_limit(expr: &Expr, request: &Request, stored: usize) ->
     levels_for(expr_height(expr), given_height(request, stored))
 }
 
-/// How many levels the policies can need for this request, over such a store.
-pub(crate) fn first_limit(policies: &PolicySet, request: &Request, stored: usize) -> usize {
-    levels_for(policies_height(policies), given_height(request, stored))
-}
-
-/// How many levels a step from this response can need, by these values and over such a store.
-pub(crate) fn step_limit(
-    response: &PartialResponse,
-    values: &HashMap<RcStr, Value>,
-    stored: usize,
-) -> usize {
-    let permits = residuals_height(&response.residual_permits);
-    let forbids = residuals_height(&response.residual_forbids);
-    let given = given_height(&response.request, stored);
-    levels_for_step(permits.max(forbids), given, mapped_height(values))
+/// How many levels are evaluated where parts may be unknown: as many as are set or, where none are, as many as there can
+/// be, so that no policy meets the limit.
+pub(crate) fn levels_within(limit: Option<usize>) -> usize
+    ensures { result ≡ levels_in limit }
+{
+    limit.unwrap_or(usize::MAX)
 }
 
 // How high what functions answer is at most: a computed datetime is `datetime("1970-01-01").offset(duration("5ms"))`.

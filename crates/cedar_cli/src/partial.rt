@@ -1,4 +1,13 @@
 //! What is known of a decision where parts of the request or of the entities are unknown.
+ghost use Rattle.std.specs.Prelude.{◌≡◌, ◌++◌, IfOk, IfErr, OnOk, codes, string_bytes, option_map};
+ghost use Rattle.cedar_decisions.specs.Decisions.{decision_view};
+ghost use Rattle.cedar_extensions.specs.Extensions.{extensions_view, calls_of};
+ghost use Rattle.cedar_functions.specs.Functions.{these, signatures_of};
+ghost use Rattle.cedar_cli.specs.Printing.{partial_word};
+ghost use Rattle.cedar_cli.specs.Stages.{IsPartiallyAuthorized, IsPartlyAnsweredBy, IsPartlyAnsweredOver};
+ghost use Rattle.cedar_cli.specs.Stages.{ArePrintedAs, AreInDocument, AreWords, AreWordsAbove, IsWordOf, IsLastWord};
+ghost use Rattle.cedar_cli.specs.Inputs.{AddsWord};
+
 use crate::asked::{Asked, Source, Step, Way};
 use crate::decisions::{
     Printed, partial_word_of, print_decision, print_document, push_visible_name,
@@ -9,12 +18,13 @@ use crate::places::Places;
 use crate::policies::read_over;
 use crate::refusal::Refusal;
 use crate::stages::{Stages, all_stages};
-use crate::stores::given_store;
+use crate::steps::{Taken, response_after};
+use crate::stores::{Store, given_store};
 use crate::undecided::push_why_open;
 use crate::visible::push_visible;
 use crate::warnings::{Deciding, push_errors, push_templates};
 use cedar_policy_core::ast::{EntityUID, Extension, ExtensionFunction, Name, Policy};
-use cedar_policy_core::authorizer::{PartialResponse, ReportedPolicies};
+use cedar_policy_core::authorizer::{Decision, PartialResponse, ReportedPolicies};
 use cedar_policy_core::extensions::Extensions;
 use cedar_policy_core::parser::ParsedPolicies;
 use cedar_policy_core::writing::policy_to_cedar;
@@ -26,7 +36,7 @@ use std::rc::RcStr;
 /// is, or all this as one JSON value. A step takes values for unknowns, and perhaps another store; beside these each
 /// entity that a store lacked is itself. A step that names no unknown and brings no entities is not taken. The status
 /// is that of the last decision, 4 where that is not known. The errors of policies are told as warnings, and so is what
-/// does not show in the answer; as JSON the errors stand in the value.
+/// does not show in the answer; as JSON the errors stand in the value. The functions are the standard ones and `unknown`.
 pub fn partially_authorize(
     alloc: Global,
     policies: Source<'_>,
@@ -39,13 +49,30 @@ pub fn partially_authorize(
     let all = vec![in alloc; Extension::new(name, functions, Vec::new(alloc))]?;
     match Extensions::with_standard(alloc, all.as_slice()) {
         Ok(extensions) => {
-            let parsed = read_over(alloc, policies, &extensions)?;
-            let printed = partially_authorize_parsed(alloc, policies, &parsed, asked, steps, way, &extensions);
-            drop(parsed);
-            printed
+            partially_authorize_with(alloc, &extensions, policies, asked, steps, way)
         }
         Err(_) => Err(Refusal::Memory),
     }
+}
+
+/// The same, with these functions instead of the standard ones and `unknown`.
+pub fn partially_authorize_with(
+    alloc: Global,
+    extensions: &Extensions<'_>,
+    policies: Source<'_>,
+    asked: &Asked<'_, '_>,
+    steps: &[Step<'_>],
+    way: Way,
+) -> Result<Printed, Refusal>
+    ensures answered { IfOk result (IsPartiallyAuthorized (these (signatures_of extensions.now))
+        (extensions_view extensions.now) (calls_of extensions.now) policies.entry.text.now asked.now steps.now way) }
+{
+    let parsed = read_over(alloc, policies, extensions)?;
+    let printed = partially_authorize_parsed(
+        alloc, policies, &parsed, asked, steps, way, extensions,
+    );
+    drop(parsed);
+    printed
 }
 
 fn partially_authorize_parsed(
@@ -56,7 +83,10 @@ fn partially_authorize_parsed(
     steps: &[Step<'_>],
     way: Way,
     extensions: &Extensions<'_>,
-) -> Result<Printed, Refusal> {
+) -> Result<Printed, Refusal>
+    ensures answered { IfOk result (IsPartlyAnsweredBy (extensions_view extensions.now) (calls_of extensions.now)
+        parsed.now.policies asked.now steps.now way) }
+{
     let places = Places::of(alloc, source)?;
     let mut warnings = String::new(alloc);
     push_templates(alloc, &places, &parsed.templates, &mut warnings)?;
@@ -75,20 +105,40 @@ fn partially_authorize_over_given_store(
     steps: &[Step<'_>],
     extensions: &Extensions<'_>,
     mut warnings: String,
-) -> Result<Printed, Refusal> {
+) -> Result<Printed, Refusal>
+    ensures answered { IfOk result (IsPartlyAnsweredBy (extensions_view extensions.now) (calls_of extensions.now)
+        deciding.entry.policies.now asked.now steps.now deciding.entry.way) }
+{
     let store = given_store(alloc, asked, extensions, &mut warnings)?;
+    let printed = partially_authorize_over_store(
+        alloc, deciding, &store, asked, steps, extensions, warnings,
+    );
+    drop(store);
+    printed
+}
+
+fn partially_authorize_over_store(
+    alloc: Global,
+    deciding: Deciding<'_>,
+    store: &Store,
+    asked: &Asked<'_, '_>,
+    steps: &[Step<'_>],
+    extensions: &Extensions<'_>,
+    mut warnings: String,
+) -> Result<Printed, Refusal>
+    ensures answered { IfOk result (IsPartlyAnsweredOver (extensions_view extensions.now) (calls_of extensions.now)
+        deciding.entry.policies.now store.now.entities asked.now steps.now deciding.entry.way) }
+{
     let stages = all_stages(
         alloc,
         deciding.policies,
-        &store,
+        store,
         asked,
         steps,
         deciding.way,
         extensions,
         &mut warnings,
-    );
-    drop(store);
-    let stages = stages?;
+    )?;
     let printed = print_stages(alloc, deciding, &stages, warnings);
     drop(stages);
     Ok(printed?)
@@ -98,33 +148,99 @@ fn print_stages(
     alloc: Global,
     deciding: Deciding<'_>,
     stages: &Stages<'_>,
-    mut warnings: String,
-) -> Result<Printed, AllocError> {
-    let last = stages.last();
+    warnings: String,
+) -> Result<Printed, AllocError>
+    ensures { IfOk result (ArePrintedAs deciding.entry.way.is_json stages.now.first stages.now.later.items) }
+{
     if deciding.way.is_json {
-        push_why_open(alloc, last, &mut warnings)?;
-        let document = stages_document(alloc, deciding, stages)?;
-        let printed = print_document(alloc, last.decision(), &document, warnings);
-        drop(document);
-        return printed;
+        stages_as_json(alloc, deciding, stages, warnings)
+    } else {
+        stages_as_text(alloc, deciding, stages, warnings)
     }
-    let mut above = String::new(alloc);
-    let mut response = &stages.first;
-    push_errors(alloc, deciding, &response.errors, &mut warnings)?;
-    'steps: for (input, next) in stages.inputs.iter().zip(stages.later.iter()) {
-        push_stage(alloc, response, &mut above)?;
-        push_step(alloc, input.number, &input.step, &mut above)?;
-        if let Some(next) = next {
-            response = next;
-            push_step_errors(alloc, deciding, input.number, response, &mut warnings)?;
-        }
-    }
-    push_why_open(alloc, last, &mut warnings)?;
-    print_response(alloc, above.as_str(), last, warnings)
 }
 
-// The errors of policies behind a step, below a line that says which step it is.
+fn stages_as_json(
+    alloc: Global,
+    deciding: Deciding<'_>,
+    stages: &Stages<'_>,
+    mut warnings: String,
+) -> Result<Printed, AllocError>
+    ensures { IfOk result (AreInDocument stages.now.first stages.now.later.items) }
+{
+    let last = stages.last();
+    push_why_open(alloc, last, &mut warnings)?;
+    let document = stages_document(alloc, deciding, stages)?;
+    let printed = print_document(alloc, last.decision(), &document, warnings);
+    drop(document);
+    printed
+}
+
+fn stages_as_text(
+    alloc: Global,
+    deciding: Deciding<'_>,
+    stages: &Stages<'_>,
+    mut warnings: String,
+) -> Result<Printed, AllocError>
+    ensures { IfOk result (AreWords stages.now.first stages.now.later.items) }
+{
+    push_errors(alloc, deciding, &stages.first.errors, &mut warnings)?;
+    let above = text_above(alloc, deciding, &stages.first, &stages.later, &mut warnings)?;
+    let last = stages.last();
+    push_why_open(alloc, last, &mut warnings)?;
+    let printed = print_response(alloc, above.as_str(), last, warnings);
+    drop(above);
+    printed
+}
+
+// Each response that a step follows, with the step below it. The errors behind each step are told.
+fn text_above(
+    alloc: Global,
+    deciding: Deciding<'_>,
+    first: &PartialResponse,
+    later: &[Taken<'_>],
+    warnings: &mut String,
+) -> Result<String, AllocError>
+    ensures { IfOk result (λ s. AreWordsAbove first.now later.now (string_bytes s)) }
+{
+    let mut above = String::new(alloc);
+    let mut response = first;
+    'later: for taken in later {
+        push_stage(alloc, response, taken, &mut above)?;
+        response = response_after(&taken.response, response);
+        push_step_errors(alloc, deciding, taken, warnings)?;
+    }
+    Ok(above)
+}
+
+fn push_stage(
+    alloc: Global,
+    response: &PartialResponse,
+    taken: &Taken<'_>,
+    above: &mut String,
+) -> Result<(), AllocError>
+    ensures { OnOk result (AddsWord response.now (string_bytes above.old) (string_bytes above.new)) }
+{
+    let text = stage_text(alloc, response, taken)?;
+    above.push_str(text.as_str())?;
+    Ok(())
+}
+
+// The errors of policies behind a step that is taken, below a line that says which step it is.
 fn push_step_errors(
+    alloc: Global,
+    deciding: Deciding<'_>,
+    taken: &Taken<'_>,
+    warnings: &mut String,
+) -> Result<(), AllocError> {
+    match &taken.response {
+        Some(response) => {
+            push_response_errors(alloc, deciding, taken.number, response, warnings)
+        }
+        None => Ok(()),
+    }
+}
+
+fn push_response_errors(
     alloc: Global,
     deciding: Deciding<'_>,
     number: usize,
@@ -138,18 +254,44 @@ fn push_step_errors(
     push_errors(alloc, deciding, &response.errors, warnings)
 }
 
-// The decision of an earlier stage, and what is known of it.
-fn push_stage(
+// The decision of an earlier stage, what is known of it, and the step below it.
+fn stage_text(
     alloc: Global,
     response: &PartialResponse,
-    output: &mut String,
-) -> Result<(), AllocError> {
-    output.push_str(partial_word_of(response.decision()))?;
-    output.push_str("\n")?;
-    push_response(alloc, response, output)
+    taken: &Taken<'_>,
+) -> Result<String, AllocError>
+    ensures { IfOk result (λ s. IsWordOf response.now (string_bytes s)) }
+{
+    let lines = stage_lines(alloc, response, taken)?;
+    let text = text_below_word(alloc, response.decision(), lines.as_str());
+    drop(lines);
+    text
 }
 
-// `step 1: VALUES over ENTITIES`, between empty lines.
+fn stage_lines(
+    alloc: Global,
+    response: &PartialResponse,
+    taken: &Taken<'_>,
+) -> Result<String, AllocError> {
+    let mut lines = String::new(alloc);
+    push_response(alloc, response, &mut lines)?;
+    push_step(alloc, taken.number, &taken.step, &mut lines)?;
+    Ok(lines)
+}
+
+fn text_below_word(
+    alloc: Global,
+    decision: Option<Decision>,
+    lines: &str,
+) -> Result<String, AllocError>
+    ensures { IfOk result (λ s. string_bytes s
+        ≡ partial_word (option_map decision_view decision) ++ (codes "\n" ++ (lines.now ++ codes "\n"))) }
+{
+    let word = partial_word_of(decision);
+    format!(in alloc; "{word}\n{lines}\n")
+}
+
+// `step 1: VALUES over ENTITIES`, below an empty line.
 fn push_step(
     alloc: Global,
     number: usize,
@@ -162,7 +304,7 @@ fn push_step(
         output.push_str(" over ")?;
         push_visible(alloc, entities.name, output)?;
     }
-    output.push_str("\n\n")
+    output.push_str("\n")
 }
 
 fn print_response(
@@ -170,7 +312,9 @@ fn print_response(
     above: &str,
     response: &PartialResponse,
     warnings: String,
-) -> Result<Printed, AllocError> {
+) -> Result<Printed, AllocError>
+    ensures { IfOk result (IsLastWord above.now response.now) }
+{
     let mut lines = String::new(alloc);
     push_response(alloc, response, &mut lines)?;
     let printed = print_decision(alloc, above, response.decision(), lines.as_str(), warnings);

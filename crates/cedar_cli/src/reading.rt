@@ -8,10 +8,11 @@ ghost use Rattle.cedar_json_reader.specs.JsonTexts.{SaysSo};
 ghost use Rattle.cedar_json_reader.specs.SaidContexts.{context_said, IsContextOf};
 ghost use Rattle.cedar_json_reader.specs.SaidRequests.{IsRequestOf};
 ghost use Rattle.cedar_cli.specs.Reasons.{IsToldFor, IsPathUnread, IsJsonUnread, IsEntryUnread, IsContextUnread};
-ghost use Rattle.cedar_cli.specs.Reasons.{AreEntriesUnread, ArePartsUnread, IsRequestUnread};
+ghost use Rattle.cedar_cli.specs.Reasons.{AreEntriesUnread, ArePartsUnread, IsRequestUnread, IsPartialUnread};
 ghost use Rattle.cedar_json_reader.specs.SaidContexts.{IsContextRefusal};
 ghost use Rattle.cedar_json_reader.specs.SaidRequests.{IsRequestRefusal};
 ghost use Rattle.cedar_cli.specs.Questions.{levels, IsEntryOf, AreGiven, IsContextSaid, IsOfParts, IsWholeRequest};
+ghost use Rattle.cedar_cli.specs.Questions.{IsContextGiven, IsOfGivenParts, IsPartialRequest};
 
 use crate::asked::{Asked, Source};
 use crate::limits::LEVELS;
@@ -112,17 +113,47 @@ pub(crate) fn partial_request(
     alloc: Global,
     asked: &Asked<'_, '_>,
     extensions: &Extensions<'_>,
-) -> Result<Request, Refusal> {
+) -> Result<Request, Refusal>
+    ensures asked { IfOk result
+        (IsPartialRequest (extensions_view extensions.now) (calls_of extensions.now) asked.now) }
+    ensures refused { IfErr result (IsToldFor
+        (IsPartialUnread (extensions_view extensions.now) (calls_of extensions.now) asked.now)) }
+{
     match asked.request {
         Some(source) => request_of(alloc, source, extensions),
-        None => {
-            let context = match asked.context {
-                Some(source) => Some(context_of(alloc, source, extensions)?),
-                None => None,
-            };
-            let entries = entries_of(alloc, asked)?;
-            Ok(request_of_parts(entries, context))
-        }
+        None => request_of_given(alloc, asked, extensions),
+    }
+}
+
+// The request of the parts that are given.
+fn request_of_given(
+    alloc: Global,
+    asked: &Asked<'_, '_>,
+    extensions: &Extensions<'_>,
+) -> Result<Request, Refusal>
+    ensures parts { IfOk result
+        (IsOfGivenParts (extensions_view extensions.now) (calls_of extensions.now) asked.now) }
+    ensures refused { IfErr result (IsToldFor
+        (ArePartsUnread (extensions_view extensions.now) (calls_of extensions.now) asked.now)) }
+{
+    let context = context_if_given(alloc, asked.context, extensions)?;
+    let entries = entries_of(alloc, asked)?;
+    Ok(request_of_parts(entries, context))
+}
+
+fn context_if_given(
+    alloc: Global,
+    context: Option<Source<'_>>,
+    extensions: &Extensions<'_>,
+) -> Result<Option<Context>, Refusal>
+    ensures said { IfOk result
+        (IsContextGiven (extensions_view extensions.now) (calls_of extensions.now) context.entry) }
+    ensures refused { IfErr result (IsToldFor
+        (IsContextUnread (extensions_view extensions.now) (calls_of extensions.now) context.entry)) }
+{
+    match context {
+        Some(source) => Ok(Some(context_of(alloc, source, extensions)?)),
+        None => Ok(None),
     }
 }
 

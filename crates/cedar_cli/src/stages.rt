@@ -1,26 +1,38 @@
 //! The stages of a partial answer: the first response, and what each step makes of it.
+ghost use Rattle.std.specs.Prelude.{◌≡◌, List, IfOk, IfErr};
+ghost use Rattle.cedar_extensions.specs.Extensions.{extensions_view, calls_of};
+ghost use Rattle.cedar_layers.specs.Stores.{store_view};
+ghost use Rattle.cedar_requests.specs.Requests.{request_view};
+ghost use Rattle.cedar_authorizer.specs.Configured.{configuration, asked_of};
+ghost use Rattle.cedar_authorizer.specs.Responding.{considered};
+ghost use Rattle.cedar_authorizer.specs.Running.{request_of, IsRun};
+ghost use Rattle.cedar_cli.specs.Questions.{IsPartialRequest};
+ghost use Rattle.cedar_cli.specs.Inputs.{AreInputs};
+ghost use Rattle.cedar_cli.specs.Stages.{last_in, partial_configuration, AreStages};
+
 use crate::asked::{Asked, Step, Way};
-use crate::limits::{STEPS, first_limit, too_many_steps};
+use crate::limits::{STEPS, levels_within, too_many_steps};
 use crate::reading::partial_request;
 use crate::refusal::Refusal;
-use crate::steps::{StepInput, Taking, last_of, step_inputs, take_all};
+use crate::steps::{StepInput, Taken, last_of, step_inputs, take_all};
 use crate::stores::Store;
-use cedar_policy_core::ast::{PolicySet, Request};
+use cedar_policy_core::ast::PolicySet;
 use cedar_policy_core::authorizer::{Authorizer, PartialResponse};
 use cedar_policy_core::extensions::Extensions;
 use std::alloc::Global;
 
-/// The first response, and those after each step that is taken.
+/// The first response, and what each step in turn makes of it.
 #[derive(Drop)]
 pub(crate) struct Stages<'t> {
     pub(crate) first: PartialResponse,
-    pub(crate) later: Vec<Option<PartialResponse>>,
-    pub(crate) inputs: Vec<StepInput<'t>>,
+    pub(crate) later: Vec<Taken<'t>>,
 }
 
 impl<'t> Stages<'t> {
     /// The last response.
-    pub(crate) fn last(&self) -> &PartialResponse {
+    pub(crate) fn last(&self) -> &PartialResponse
+        ensures { result.now ≡ last_in self.now.first self.now.later.items }
+    {
         last_of(&self.first, &self.later)
     }
 }
@@ -36,47 +48,53 @@ pub(crate) fn all_stages<'t>(
     way: Way,
     extensions: &Extensions<'_>,
     warnings: &mut String,
-) -> Result<Stages<'t>, Refusal> {
+) -> Result<Stages<'t>, Refusal>
+    ensures stages { IfOk result (λ s. AreStages
+        (partial_configuration (extensions_view extensions.now) (calls_of extensions.now) way) (considered policies.now)
+        store.now.entities asked.now steps.now s.first s.later.items) }
+{
     if steps.len() > STEPS {
         return Err(too_many_steps(alloc, steps.len()));
     }
     let inputs = step_inputs(alloc, steps, extensions, warnings)?;
-    match stages_of(
+    let stages = stages_of(
         alloc, policies, store, asked, &inputs, way, extensions, warnings,
-    ) {
-        Ok((first, later)) => Ok(Stages {
-            first,
-            later,
-            inputs,
-        }),
-        Err(refusal) => {
-            drop(inputs);
-            Err(refusal)
-        }
-    }
+    );
+    drop(inputs);
+    stages
 }
 
-fn stages_of(
+fn stages_of<'t>(
     alloc: Global,
     policies: &PolicySet,
     store: &Store,
     asked: &Asked<'_, '_>,
-    inputs: &[StepInput<'_>],
+    inputs: &[StepInput<'t>],
     way: Way,
     extensions: &Extensions<'_>,
     warnings: &mut String,
-) -> Result<(PartialResponse, Vec<Option<PartialResponse>>), Refusal> {
-    let request = partial_request(alloc, asked, extensions)?;
-    let taking = Taking {
-        limit: way.limit,
-        error_handling: way.error_handling,
-    };
-    let first = first_stage(alloc, taking, extensions, request, policies, store)?;
-    let mut later: Vec<Option<PartialResponse>> = Vec::new(alloc);
+) -> Result<Stages<'t>, Refusal>
+    ensures stages { (ss : List _) → AreInputs (extensions_view extensions.now) (calls_of extensions.now) ss inputs.now
+        → IfOk result (λ s. AreStages
+        (partial_configuration (extensions_view extensions.now) (calls_of extensions.now) way) (considered policies.now)
+        store.now.entities asked.now ss s.first s.later.items) }
+{
+    let authorizer = Authorizer::new(extensions, levels_within(way.limit)).with_error_handling(
+        way.error_handling,
+    );
+    let first = first_stage(alloc, &authorizer, policies, store, asked, extensions)?;
+    let mut later: Vec<Taken<'t>> = Vec::new(alloc);
     match take_all(
-        alloc, taking, extensions, &first, store, inputs, &mut later, warnings,
+        alloc,
+        &authorizer,
+        way.limit,
+        &first,
+        store,
+        inputs,
+        &mut later,
+        warnings,
     ) {
-        Ok(()) => Ok((first, later)),
+        Ok(()) => Ok(Stages { first, later }),
         Err(refusal) => {
             drop((first, later));
             Err(refusal)
@@ -86,16 +104,18 @@ fn stages_of(
 
 fn first_stage(
     alloc: Global,
-    taking: Taking,
-    extensions: &Extensions<'_>,
-    request: Request,
+    authorizer: &Authorizer<'_>,
     policies: &PolicySet,
     store: &Store,
-) -> Result<PartialResponse, Refusal> {
-    let limit = match taking.limit {
-        Some(limit) => limit,
-        None => first_limit(policies, &request, store.height),
-    };
-    let authorizer = Authorizer::new(extensions, limit).with_error_handling(taking.error_handling);
+    asked: &Asked<'_, '_>,
+    extensions: &Extensions<'_>,
+) -> Result<PartialResponse, Refusal>
+    ensures request { IfOk result (λ r.
+        IsPartialRequest (extensions_view extensions.now) (calls_of extensions.now) asked.now (request_of r)) }
+    ensures run { IfOk result (λ r. IsRun (configuration authorizer.now)
+        (asked_of (configuration authorizer.now) (request_view (request_of r)) (store_view store.now.entities))
+        (considered policies.now) r) }
+{
+    let request = partial_request(alloc, asked, extensions)?;
     Ok(authorizer.is_authorized_core(alloc, request, policies, &store.entities)?)
 }

@@ -1,13 +1,31 @@
 //! Steps: a partial answer, taken further by values for unknowns and perhaps another store.
+ghost use Rattle.std.specs.Prelude.{◌≡◌, ◌++◌, ◌∷◌, [], true, false, List, Ok, Some, IfOk, IfErr, IfSome, OnOk, is_some, map};
+ghost use Rattle.std.specs.Rc.{rc_str_bytes};
+ghost use Rattle.cedar_model.specs.Chains.{has_limit, is_limit};
+ghost use Rattle.cedar_model.specs.Failures.{failure_kind};
+ghost use Rattle.cedar_extensions.specs.Extensions.{extensions_view, calls_of};
+ghost use Rattle.cedar_layers.specs.Stores.{store_view};
+ghost use Rattle.cedar_requests.specs.Contexts.{context_values};
+ghost use Rattle.cedar_requests.specs.Substitutions.{values_for};
+ghost use Rattle.cedar_authorizer.specs.Configured.{configuration};
+ghost use Rattle.cedar_authorizer.specs.responses.Responses.{error_view, errors_view};
+ghost use Rattle.cedar_authorizer.specs.Steps.{response_said, step_by, IsStep};
+ghost use Rattle.cedar_model.specs.Outcomes.{has_text};
+ghost use Rattle.cedar_cli.specs.Steps.{step_map, with_value, with_values, values_in, AreValuesSaid};
+ghost use Rattle.cedar_cli.specs.Steps.{is_part, is_open, some_open};
+ghost use Rattle.cedar_cli.specs.Stages.{last_in, response_or};
+ghost use Rattle.cedar_cli.specs.Inputs.{IsOwnStore, IsInput, AreInputs, store_or, AddsTaken, IsTakenBy, AreAllTaken};
+ghost use Rattle.cedar_cli.specs.Inputs.{IsIdle};
+
 use crate::asked::{Source, Step};
 use crate::left::open_names;
-use crate::limits::{LEVELS, push_limit, step_limit};
+use crate::limits::{LEVELS, push_limit};
 use crate::refusal::{Refusal, refuse_with_line, unread_json};
 use crate::stores::{Given, Store, store_of};
 use crate::warnings::{push_idle_step, push_strays};
 use cedar_policy_core::ast::{Context, Expr, Unknowns, Value};
 use cedar_policy_core::authorizer::{
-    AuthorizationError, Authorizer, ErrorHandling, PartialResponse, ReauthorizationError,
+    AuthorizationError, Authorizer, PartialResponse, ReauthorizationError,
 };
 use cedar_policy_core::entities::json::context_from_json_str;
 use cedar_policy_core::extensions::Extensions;
@@ -18,27 +36,29 @@ use std::rc::RcStr;
 /// What a step takes: which it is of them, counted from 1, its files, and what stands in these.
 #[derive(Drop)]
 pub(crate) struct StepInput<'t> {
-    pub(crate) number: usize,
-    pub(crate) step: Step<'t>,
-    values: HashMap<RcStr, Value>,
+    number: usize,
+    step: Step<'t>,
+    values: Context,
     store: Option<Store>,
 }
 
-impl<'t> StepInput<'t> {
-    // The store that this step is taken over: its own, or else the one before.
-    fn store_after<'e>(&'e self, before: &'e Store) -> &'e Store {
-        match &self.store {
-            Some(store) => store,
-            None => before,
-        }
-    }
+/// A step, which it is of them, counted from 1, and the response that it makes of the one before; none where it is not
+/// taken.
+#[derive(Drop)]
+pub(crate) struct Taken<'t> {
+    pub(crate) number: usize,
+    pub(crate) step: Step<'t>,
+    pub(crate) response: Option<PartialResponse>,
 }
 
-/// How steps are taken: how many levels deep is evaluated, where that is said, and how errors are handled.
-#[derive(Clone, Copy)]
-pub(crate) struct Taking {
-    pub(crate) limit: Option<usize>,
-    pub(crate) error_handling: ErrorHandling,
+// The store that a step is taken over: its own, or else the one before.
+fn store_after<'e>(own: &'e Option<Store>, before: &'e Store) -> &'e Store
+    ensures { result.now ≡ store_or own.now before.now }
+{
+    match own {
+        Some(store) => store,
+        None => before,
+    }
 }
 
 /// What the steps take, in their order.
@@ -47,23 +67,29 @@ pub(crate) fn step_inputs<'t>(
     steps: &[Step<'t>],
     extensions: &Extensions<'_>,
     warnings: &mut String,
-) -> Result<Vec<StepInput<'t>>, Refusal> {
+) -> Result<Vec<StepInput<'t>>, Refusal>
+    ensures read { IfOk result (λ v.
+        AreInputs (extensions_view extensions.now) (calls_of extensions.now) steps.now v.items) }
+{
     let mut inputs: Vec<StepInput<'t>> = Vec::new(alloc);
     'steps: for step in steps {
-        put_input(alloc, *step, extensions, &mut inputs, warnings)?;
+        put_input(alloc, step, extensions, &mut inputs, warnings)?;
     }
     Ok(inputs)
 }
 
 fn put_input<'t>(
     alloc: Global,
-    step: Step<'t>,
+    step: &Step<'t>,
     extensions: &Extensions<'_>,
     inputs: &mut Vec<StepInput<'t>>,
     warnings: &mut String,
-) -> Result<(), Refusal> {
+) -> Result<(), Refusal>
+    ensures put { (ss : List _) → AreInputs (extensions_view extensions.now) (calls_of extensions.now) ss inputs.old.items
+        → OnOk result (AreInputs (extensions_view extensions.now) (calls_of extensions.now) (ss ++ step.now ∷ []) inputs.new.items) }
+{
     let number = inputs.len().saturating_add(1);
-    let input = step_input(alloc, number, step, extensions, warnings)?;
+    let input = step_input(alloc, number, *step, extensions, warnings)?;
     inputs.push(input)?;
     Ok(())
 }
@@ -74,7 +100,10 @@ fn step_input<'t>(
     step: Step<'t>,
     extensions: &Extensions<'_>,
     warnings: &mut String,
-) -> Result<StepInput<'t>, Refusal> {
+) -> Result<StepInput<'t>, Refusal>
+    ensures step { IfOk result (λ i. i.step ≡ step.entry) }
+    ensures input { IfOk result (IsInput (extensions_view extensions.now) (calls_of extensions.now)) }
+{
     let values = step_values(alloc, step.values, extensions)?;
     match step_store(alloc, step, extensions, warnings) {
         Ok(store) => Ok(StepInput {
@@ -95,7 +124,10 @@ fn step_store(
     step: Step<'_>,
     extensions: &Extensions<'_>,
     warnings: &mut String,
-) -> Result<Option<Store>, Refusal> {
+) -> Result<Option<Store>, Refusal>
+    ensures own { IfOk result (IsOwnStore (extensions_view extensions.now) (calls_of extensions.now)
+        step.entry.entities step.entry.is_partial) }
+{
     match step.entities {
         Some(source) => {
             let given = Given {
@@ -114,52 +146,34 @@ fn step_values(
     alloc: Global,
     source: Source<'_>,
     extensions: &Extensions<'_>,
-) -> Result<HashMap<RcStr, Value>, Refusal> {
+) -> Result<Context, Refusal>
+    ensures said { IfOk result
+        (AreValuesSaid (extensions_view extensions.now) (calls_of extensions.now) source.entry.text.now) }
+{
     match context_from_json_str(alloc, source.text, extensions, LEVELS) {
-        Ok(context) => {
-            let values = known_values(alloc, source, &context);
-            drop(context);
-            values
-        }
+        Ok(context) => known_values(alloc, source, context),
         Err(error) => Err(unread_json(alloc, source, error)),
     }
 }
 
-fn known_values(
-    alloc: Global,
-    source: Source<'_>,
-    context: &Context,
-) -> Result<HashMap<RcStr, Value>, Refusal> {
+fn known_values(alloc: Global, source: Source<'_>, context: Context) -> Result<Context, Refusal>
+    ensures same { IfOk result (λ c. c ≡ context) }
+    ensures known { IfOk result (λ c. is_some (context_values c) ≡ true) }
+{
+    if is_known(&context) {
+        return Ok(context);
+    }
+    let refusal = not_known(alloc, source, &context);
+    drop(context);
+    Err(refusal)
+}
+
+fn is_known(context: &Context) -> bool
+    ensures { result ≡ is_some (context_values context.now) }
+{
     match context.as_value() {
-        Some(pairs) => Ok(map_of(alloc, pairs)?),
-        None => Err(not_known(alloc, source, context)),
-    }
-}
-
-fn map_of(
-    alloc: Global,
-    pairs: &BTreeMap<RcStr, Value>,
-) -> Result<HashMap<RcStr, Value>, AllocError> {
-    let mut map: HashMap<RcStr, Value> = HashMap::new(alloc);
-    'pairs: for (key, value) in pairs.iter() {
-        put_value(key, value, &mut map)?;
-    }
-    Ok(map)
-}
-
-fn put_value(
-    key: &RcStr,
-    value: &Value,
-    map: &mut HashMap<RcStr, Value>,
-) -> Result<(), AllocError> {
-    let key: RcStr = key.clone()?;
-    let value: Value = value.clone()?;
-    match map.insert(key, value) {
-        Ok(replaced) => {
-            drop(replaced);
-            Ok(())
-        }
-        Err(_) => Err(AllocError),
+        Some(_) => true,
+        None => false,
     }
 }
 
@@ -194,96 +208,125 @@ fn first_unknown_of(pairs: &BTreeMap<RcStr, Expr>) -> Option<&str> {
     None
 }
 
-/// Puts what follows of the first response by each step in turn behind those that are there: nothing for a step that is
-/// not taken, since it names no unknown and brings no entities.
-pub(crate) fn take_all(
+/// Puts each step in turn behind those that are there, with what follows by it of the response before.
+pub(crate) fn take_all<'t>(
     alloc: Global,
-    taking: Taking,
-    extensions: &Extensions<'_>,
+    authorizer: &Authorizer<'_>,
+    limit: Option<usize>,
     first: &PartialResponse,
     store: &Store,
-    inputs: &[StepInput<'_>],
-    later: &mut Vec<Option<PartialResponse>>,
+    inputs: &[StepInput<'t>],
+    later: &mut Vec<Taken<'t>>,
     warnings: &mut String,
-) -> Result<(), Refusal> {
+) -> Result<(), Refusal>
+    ensures taken { (ss : List _)
+        → AreInputs (configuration authorizer.now).extensions (configuration authorizer.now).calls ss inputs.now
+        → later.old.items ≡ []
+        → OnOk result (AreAllTaken (configuration authorizer.now) first.now store.now.entities ss later.new.items) }
+{
     let mut store = store;
     'inputs: for input in inputs {
-        store = input.store_after(store);
-        let next = take(
-            alloc,
-            taking,
-            extensions,
-            last_of(first, later),
-            input,
-            store,
-            warnings,
-        )?;
-        put_response(next, later)?;
+        store = store_after(&input.store, store);
+        let last = last_of(first, later);
+        let response = take(alloc, authorizer, limit, last, input, store, warnings)?;
+        put_taken(input, response, later)?;
     }
     Ok(())
 }
 
 /// The last of these responses.
-pub(crate) fn last_of<'r>(
-    first: &'r PartialResponse,
-    later: &'r [Option<PartialResponse>],
-) -> &'r PartialResponse {
+pub(crate) fn last_of<'r>(first: &'r PartialResponse, later: &'r [Taken<'_>]) -> &'r PartialResponse
+    ensures { result.now ≡ last_in first.now later.now }
+{
     let mut last = first;
-    'later: for response in later {
-        if let Some(response) = response {
-            last = response;
-        }
+    'later: for taken in later {
+        last = response_after(&taken.response, last);
     }
     last
 }
 
-fn put_response(
+/// The response behind a step: its own, or else the one before.
+pub(crate) fn response_after<'r>(
+    own: &'r Option<PartialResponse>,
+    before: &'r PartialResponse,
+) -> &'r PartialResponse
+    ensures { result.now ≡ response_or own.now before.now }
+{
+    match own {
+        Some(response) => response,
+        None => before,
+    }
+}
+
+fn put_taken<'t>(
+    input: &StepInput<'t>,
     response: Option<PartialResponse>,
-    later: &mut Vec<Option<PartialResponse>>,
-) -> Result<(), AllocError> {
-    match later.push(response) {
+    later: &mut Vec<Taken<'t>>,
+) -> Result<(), AllocError>
+    ensures { OnOk result (AddsTaken input.now.step response later.old.items later.new.items) }
+{
+    let taken = Taken {
+        number: input.number,
+        step: input.step,
+        response,
+    };
+    match later.push(taken) {
         Ok(()) => Ok(()),
         Err(_) => Err(AllocError),
     }
 }
 
-// One step from the response. None is taken where a policy met the limit of levels: what it decides is not known then.
+// One step from the response, none where it names no unknown and brings no entities. None is taken where a policy met
+// the limit of levels: what it decides is not known then.
 fn take(
     alloc: Global,
-    taking: Taking,
-    extensions: &Extensions<'_>,
+    authorizer: &Authorizer<'_>,
+    limit: Option<usize>,
     response: &PartialResponse,
     input: &StepInput<'_>,
     store: &Store,
     warnings: &mut String,
-) -> Result<Option<PartialResponse>, Refusal> {
+) -> Result<Option<PartialResponse>, Refusal>
+    ensures taken { IfOk result
+        (IsTakenBy (configuration authorizer.now) input.now store.now.entities response.now) }
+{
     if has_met_limit(&response.errors) {
-        return Err(past_limit(alloc, input.step.values.name, taking.limit));
+        return Err(past_limit(alloc, input.step.values.name, limit));
     }
     if tell_whether_idle(alloc, response, input, warnings)? {
         return Ok(None);
     }
-    let values = values_beside(alloc, response, input)?;
-    let next = take_input(alloc, taking, extensions, response, input, &values, store);
-    drop(values);
-    Ok(Some(next?))
+    Ok(Some(take_values(alloc, authorizer, response, input, store)?))
 }
 
-fn take_input(
+fn take_values(
     alloc: Global,
-    taking: Taking,
-    extensions: &Extensions<'_>,
+    authorizer: &Authorizer<'_>,
+    response: &PartialResponse,
+    input: &StepInput<'_>,
+    store: &Store,
+) -> Result<PartialResponse, Refusal>
+    ensures step { IfOk result (λ n. IsStep (configuration authorizer.now)
+        (step_map input.now.values response.now, store_view store.now.entities) (response_said response.now) (Ok n)) }
+{
+    let values = values_beside(alloc, response, input)?;
+    let next = take_over(alloc, authorizer, response, input, &values, store);
+    drop(values);
+    next
+}
+
+fn take_over(
+    alloc: Global,
+    authorizer: &Authorizer<'_>,
     response: &PartialResponse,
     input: &StepInput<'_>,
     values: &HashMap<RcStr, Value>,
     store: &Store,
-) -> Result<PartialResponse, Refusal> {
-    let limit = match taking.limit {
-        Some(limit) => limit,
-        None => step_limit(response, values, store.height),
-    };
-    let authorizer = Authorizer::new(extensions, limit).with_error_handling(taking.error_handling);
-    match response.reauthorize(alloc, values, &authorizer, &store.entities) {
+) -> Result<PartialResponse, Refusal>
+    ensures step { IfOk result (λ n. IsStep (configuration authorizer.now)
+        (step_by values.now store.now.entities) (response_said response.now) (Ok n)) }
+{
+    match response.reauthorize(alloc, values, authorizer, &store.entities) {
         Ok(next) => Ok(next),
         Err(error) => Err(not_taken(alloc, input.step.values.name, error)),
     }
@@ -296,50 +339,95 @@ fn tell_whether_idle(
     response: &PartialResponse,
     input: &StepInput<'_>,
     warnings: &mut String,
-) -> Result<bool, AllocError> {
+) -> Result<bool, AllocError>
+    ensures { IfOk result (λ b. b ≡ true → IsIdle input.now response.now) }
+{
     let open = open_names(alloc, response)?;
-    let strays = strays_of(alloc, &input.values, &open);
+    let is_idle = input.store.is_none() && !names_one(&input.values, &open);
+    let told = tell_names(alloc, input, &open, is_idle, warnings);
     drop(open);
-    let strays = strays?;
-    let names_none = strays.len() == input.values.len();
-    let told = tell_idle(alloc, input, &strays, names_none, warnings);
-    drop(strays);
     told?;
-    Ok(names_none && input.store.is_none())
+    Ok(is_idle)
 }
 
-fn tell_idle(
+// Whether one of the names is open.
+fn names_one(values: &Context, names: &[RcStr]) -> bool
+    ensures { result ≡ some_open (map rc_str_bytes names.now) (values_in values.now) }
+{
+    match values.as_value() {
+        Some(pairs) => has_open_key(pairs, names),
+        None => false,
+    }
+}
+
+fn has_open_key(pairs: &BTreeMap<RcStr, Value>, names: &[RcStr]) -> bool
+    ensures { result ≡ some_open (map rc_str_bytes names.now) pairs.now.entries }
+{
+    'keys: for (key, _) in pairs.iter() {
+        if is_open(names, key) {
+            return true;
+        }
+    }
+    false
+}
+
+// Whether the name is one of these or a part of a request: a value for a part that is known is refused.
+fn is_open(names: &[RcStr], name: &RcStr) -> bool
+    ensures { result ≡ is_open (map rc_str_bytes names.now) (rc_str_bytes name.now) }
+{
+    has_name(names, name) || is_part(name.as_str())
+}
+
+fn has_name(names: &[RcStr], name: &RcStr) -> bool
+    ensures { result ≡ has_text (rc_str_bytes name.now) (map rc_str_bytes names.now) }
+{
+    'names: for other in names {
+        if name == other {
+            return true;
+        }
+    }
+    false
+}
+
+fn is_part(name: &str) -> bool
+    ensures { result ≡ is_part name.now }
+{
+    name == "principal" || name == "action" || name == "resource" || name == "context"
+}
+
+fn tell_names(
     alloc: Global,
     input: &StepInput<'_>,
-    strays: &BTreeSet<RcStr>,
-    names_none: bool,
+    open: &[RcStr],
+    is_idle: bool,
     warnings: &mut String,
 ) -> Result<(), AllocError> {
-    push_strays(alloc, input.number, input.step.values, strays, warnings)?;
-    if names_none && input.store.is_none() {
+    let strays = strays_of(alloc, &input.values, open)?;
+    let pushed = push_strays(alloc, input.number, input.step.values, &strays, warnings);
+    drop(strays);
+    pushed?;
+    if is_idle {
         push_idle_step(alloc, input.number, input.step.values, warnings)?;
     }
     Ok(())
 }
 
-// The names that are none of these and no part of a request, in order: a value for a part that is known is refused.
+// The other names, in order.
 fn strays_of(
     alloc: Global,
-    values: &HashMap<RcStr, Value>,
-    open: &BTreeSet<RcStr>,
+    values: &Context,
+    open: &[RcStr],
 ) -> Result<BTreeSet<RcStr>, AllocError> {
     let mut strays: BTreeSet<RcStr> = BTreeSet::new(alloc);
-    'values: for name in values.keys() {
-        if !open.contains(name) && !is_part(name.as_str()) {
-            let name: RcStr = name.clone()?;
-            drop(strays.insert(name)?);
+    if let Some(pairs) = values.as_value() {
+        'keys: for (key, _) in pairs.iter() {
+            if !is_open(open, key) {
+                let name: RcStr = key.clone()?;
+                drop(strays.insert(name)?);
+            }
         }
     }
     Ok(strays)
-}
-
-fn is_part(name: &str) -> bool {
-    name == "principal" || name == "action" || name == "resource" || name == "context"
 }
 
 // The values of the step, and each entity that the stores lacked for itself. Refused where the step gives another value
@@ -348,7 +436,9 @@ fn values_beside(
     alloc: Global,
     response: &PartialResponse,
     input: &StepInput<'_>,
-) -> Result<HashMap<RcStr, Value>, Refusal> {
+) -> Result<HashMap<RcStr, Value>, Refusal>
+    ensures { IfOk result (λ m. values_for m.entries ≡ step_map input.now.values response.now) }
+{
     let mut values = response.entity_values(alloc)?;
     match put_values(alloc, input, &mut values) {
         Ok(()) => Ok(values),
@@ -363,10 +453,28 @@ fn put_values(
     alloc: Global,
     input: &StepInput<'_>,
     values: &mut HashMap<RcStr, Value>,
-) -> Result<(), Refusal> {
-    'values: for (name, value) in input.values.iter() {
+) -> Result<(), Refusal>
+    ensures { OnOk result (values_for values.new.entries
+        ≡ with_values (values_in input.now.values) (values_for values.old.entries)) }
+{
+    match input.values.as_value() {
+        Some(pairs) => put_pairs(alloc, input.step.values.name, pairs, values),
+        None => Ok(()),
+    }
+}
+
+fn put_pairs(
+    alloc: Global,
+    source: &str,
+    pairs: &BTreeMap<RcStr, Value>,
+    values: &mut HashMap<RcStr, Value>,
+) -> Result<(), Refusal>
+    ensures { OnOk result (values_for values.new.entries
+        ≡ with_values pairs.now.entries (values_for values.old.entries)) }
+{
+    'pairs: for (name, value) in pairs.iter() {
         if is_another(values, name, value) {
-            return Err(another_entity(alloc, input.step.values.name, name));
+            return Err(another_entity(alloc, source, name));
         }
         put_value(name, value, values)?;
     }
@@ -378,6 +486,21 @@ fn is_another(values: &HashMap<RcStr, Value>, name: &RcStr, value: &Value) -> bo
     match values.get(name) {
         Some(other) => other != value,
         None => false,
+    }
+}
+
+fn put_value(key: &RcStr, value: &Value, map: &mut HashMap<RcStr, Value>) -> Result<(), AllocError>
+    ensures { OnOk result (values_for map.new.entries
+        ≡ with_value (rc_str_bytes key.now, value.now.what) (values_for map.old.entries)) }
+{
+    let key: RcStr = key.clone()?;
+    let value: Value = value.clone()?;
+    match map.insert(key, value) {
+        Ok(replaced) => {
+            drop(replaced);
+            Ok(())
+        }
+        Err(_) => Err(AllocError),
     }
 }
 
@@ -421,12 +544,20 @@ fn not_taken(alloc: Global, name: &str, error: ReauthorizationError) -> Refusal 
 }
 
 // Whether the recursion limit is among these errors.
-fn has_met_limit(errors: &[AuthorizationError]) -> bool {
+fn has_met_limit(errors: &[AuthorizationError]) -> bool
+    ensures { result ≡ has_limit (errors_view errors.now) }
+{
     'errors: for error in errors {
-        let AuthorizationError::PolicyEvaluationError { id: _, error } = error;
-        if error.is_recursion_limit() {
+        if is_recursion_limit(error) {
             return true;
         }
     }
     false
+}
+
+fn is_recursion_limit(error: &AuthorizationError) -> bool
+    ensures { result ≡ is_limit (failure_kind (error_view error.now).1) }
+{
+    let AuthorizationError::PolicyEvaluationError { id: _, error } = error;
+    error.is_recursion_limit()
 }
