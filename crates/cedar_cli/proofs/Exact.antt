@@ -13,6 +13,7 @@ use Rattle.cedar_layers.specs.declared.policies.entities.Entities.{Entities}
 use Rattle.cedar_requests.specs.declared.request.Request.{Request}
 use Rattle.cedar_text_parser.specs.PolicyHeights.{with_scope, AreAllNoHigher}
 use Rattle.cedar_text_parser.specs.PolicyReading.{AreAllRead}
+use Rattle.cedar_text_parser.specs.PolicyTermCalls.{ReadPoliciesCallKnown}
 use Rattle.cedar_text_parser.specs.declared.policies.ParsedPolicies.{ParsedPolicies}
 use Rattle.cedar_standard_functions.specs.Laws.{AskNothing}
 use Rattle.cedar_standard_functions.specs.Standard.{made_by, standard_named, standard_answers}
@@ -36,13 +37,13 @@ none_asks ask = record {
   never = λ f vs n t e. made_asks_nothing ask (standard_named f) vs n t e;
 }
 
-module _ (ask : AskNothing) (agree : AgreesWithFunctions standard_answers standard_calls) where
+module _ (calls : ReadPoliciesCallKnown) (ask : AskNothing) (agree : AgreesWithFunctions standard_answers standard_calls) where
   pub exactly : (k : Knowledge) (text : Text) (parsed : ParsedPolicies) → AreAllRead k text levels parsed
       → AreAllNoHigher (with_scope levels) parsed → (s : Entities) (r : Request) (w : Way) (a : Authorized)
       → IsResponseTo standard_extensions standard_calls parsed.policies s r w a → w.limit ≡ None
       → IsExact (mode_view w.error_handling) parsed.policies s r a
   exactly k text parsed read low s r w a is unlimited nothing sigma =
-      let known = all_known (none_asks ask) parsed read in
+      let known = all_known calls (none_asks ask) parsed read in
       let within : AreNoHigher (considered parsed.policies) (limit_in w.limit) =
       subst (λ n. AreNoHigher (considered parsed.policies) n) (sym (ap (λ o. unwrap_or o 4001) unlimited))
       low.policies in

@@ -9,10 +9,9 @@ use Rattle.cedar_model.specs.Authorizations.{HaveKnownConditions}
 use Rattle.cedar_model.specs.Policies as model
 use Rattle.cedar_functions.specs.Functions.{Knowledge}
 use Rattle.cedar_text_parser.specs.TermCalls.{TermCallsAreKnown, CallsOfEachAreKnown, CallsOfFieldsAreKnown}
-use Rattle.cedar_text_parser.specs.PolicyTermCalls.{CallsOfPoliciesAreKnown}
+use Rattle.cedar_text_parser.specs.PolicyTermCalls.{CallsOfPoliciesAreKnown, ReadPoliciesCallKnown}
 use Rattle.cedar_text_parser.specs.PolicyReading.{AreAllRead}
 use Rattle.cedar_text_parser.specs.declared.policies.ParsedPolicies.{ParsedPolicies}
-use Rattle.cedar_text_parser.proofs.PolicyTermCalls as calls
 use Rattle.cedar_authorizer.specs.Responding.{considered}
 
 -- functions of which none answers an unknown
@@ -54,6 +53,6 @@ policies_known k c [] h = tt
 policies_known k c (p ∷ ps) (x, y) = (term_known k c p.condition x, policies_known k c ps y)
 
 -- the policies of a text have no unknown, and call nothing that can answer one
-pub all_known : (k : NoneAsks) {knows : Knowledge} {text : Text} {limit : _} (out : ParsedPolicies)
+pub all_known : ReadPoliciesCallKnown → (k : NoneAsks) {knows : Knowledge} {text : Text} {limit : _} (out : ParsedPolicies)
     → AreAllRead knows text limit out → HaveKnownConditions k.ans (considered out.policies)
-all_known k {knows} out read = policies_known k knows (considered out.policies) (calls.all_known knows out read).policies
+all_known calls k {knows} {text} {limit} out read = policies_known k knows (considered out.policies) (calls knows text limit out read).policies

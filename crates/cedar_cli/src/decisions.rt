@@ -28,6 +28,7 @@ use cedar_policy_core::entities::json::JsonValue;
 use cedar_policy_core::extensions::Extensions;
 use cedar_policy_core::extensions::laws::functions_are_computed;
 use cedar_policy_core::parser::ParsedPolicies;
+use cedar_policy_core::parser::laws::known_calls_of_policies;
 use std::alloc::{AllocError, Global};
 
 /// What is printed, what is told on standard error beside it, and the exit status.
@@ -146,6 +147,7 @@ pub fn authorize(
     ensures refused { IfErr result (IsToldFor (IsUnauthorized policies.entry.text.now asked.now)) }
 {
     functions_are_computed();
+    known_calls_of_policies();
     let extensions = Extensions::all_available();
     let parsed = read_over(alloc, policies, &extensions)?;
     let printed = authorize_parsed(alloc, policies, &parsed, asked, way, &extensions);

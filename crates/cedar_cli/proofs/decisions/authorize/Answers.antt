@@ -36,7 +36,7 @@ returns-clause-answered c =
     let by = subst (λ calls. IsAnsweredBy standard_extensions calls parsed.policies q w p) (calls_alone x none there)
     viewed in
     let response = by.answered.response in
-    let exact = exactly c.functions_are_computed.ensures.nothing_asked agree standard_knowledge text parsed read
+    let exact = exactly c.known_calls_of_policies.ensures.policies c.functions_are_computed.ensures.nothing_asked agree standard_knowledge text parsed read
     c.in_ok-parsed.ensures.low by.entities by.answered.request w (response_view response) by.answered.response_is in
     record {
       parsed = parsed;
