@@ -31,7 +31,7 @@ by_choice P false x y f g = g refl
 
 -- ---- what is known
 
-known_is : (t : Term) (l : Literal) → known_literal t ≡ Some l → t ≡ literal l
+pub known_is : (t : Term) (l : Literal) → known_literal t ≡ Some l → t ≡ literal l
 known_is (literal m) l is = cc
 known_is t l is = absurd (cc)
 

@@ -154,7 +154,7 @@ fn first_of<T: Drop, U: Drop>(first: T, _other: U) -> T
 
 // ---- what is known
 
-fn literal_in(expr: &Expr) -> Option<&Literal>
+pub(crate) fn literal_in(expr: &Expr) -> Option<&Literal>
     ensures { option_map literal_view (option_copied result) ≡ known_literal (view expr.now) }
 {
     match expr.expr_kind() {
@@ -178,7 +178,7 @@ fn literal_in(expr: &Expr) -> Option<&Literal>
     }
 }
 
-fn literal_truth(literal: &Literal) -> Option<bool>
+pub(crate) fn literal_truth(literal: &Literal) -> Option<bool>
     ensures { result ≡ literal_truth (literal_view literal.now) }
 {
     match literal {
@@ -351,7 +351,7 @@ fn equality(first: Option<&Literal>, second: Option<&Literal>) -> Option<bool>
     }
 }
 
-fn order(first: Option<i64>, second: Option<i64>) -> Option<Ordering>
+pub(crate) fn order(first: Option<i64>, second: Option<i64>) -> Option<Ordering>
     ensures { result ≡ longs_order first second }
 {
     match first {
