@@ -12,7 +12,7 @@ import sys
 
 ROOT = os.path.dirname(os.path.dirname(os.path.realpath(__file__)))
 DOOR = "cedar_policy_core"
-MODULES = ["ast", "entities", "extensions", "evaluator", "authorizer", "parser", "writing", "builder"]
+MODULES = ["ast", "entities", "extensions", "evaluator", "authorizer", "parser", "writing", "builder", "filters"]
 HEAD = """# The contract of each call
 
 Made by `docs/contracts.py` from the sources: change it there. `docs/check.py` compares both.

@@ -7,5 +7,6 @@ pub mod Authorizer
 pub mod Parser
 pub mod Writing
 pub mod Builder
+pub mod Filters
 pub mod Types
 pub mod Lemmas

@@ -11,6 +11,7 @@
 //!   stored ones.
 //! - `evaluator`: the evaluator, the operators that are called by themselves, the errors of evaluation.
 //! - `authorizer`: the authorizer, what it answers, the steps, and why it does not answer.
+//! - `filters`: what is left of policies made simpler, and as conditions on rows.
 //! - `specs/Lemmas.antt`, `specs/Types.antt`: what follows of the definitions, and the types, for proofs of callers.
 //!
 //! `docs/CONTRACTS.md` has a line for each public call, with its clauses; `docs/CALLING.md` is the guide.
@@ -22,5 +23,6 @@ pub mod builder;
 pub mod entities;
 pub mod evaluator;
 pub mod extensions;
+pub mod filters;
 pub mod parser;
 pub mod writing;

@@ -1,0 +1,8 @@
+-- What is left of policies, made simpler, and as conditions on rows.
+pub use Rattle.cedar_filter.specs.Simplifying
+pub use Rattle.cedar_filter.specs.Conditions
+pub use Rattle.cedar_filter.specs.Faults
+pub use Rattle.cedar_filter.specs.Rows
+pub use Rattle.cedar_filter.specs.Truths
+pub use Rattle.cedar_filter.specs.Filters
+pub use Rattle.cedar_filter.specs.Worlds
