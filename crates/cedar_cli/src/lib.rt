@@ -1,34 +1,23 @@
 //! Cedar's command line: what is answered to questions that are asked in Cedar's text and JSON, and the commands that
-//! ask them. It runs over any host, so that a test can be one. Each question is answered by the whole text that is to
-//! be printed, or refused: then nothing is to be printed but why. `docs/COMMANDS.md` describes each command.
+//! ask them, over any host. Each question is answered by the whole text that is to be printed, or refused: then nothing
+//! is to be printed but why. What a reader of an answer would not see by it is told beside it, on standard error.
 //!
-//! The functions of the standard extensions are known and, where parts may be unknown or nothing is decided,
-//! `unknown`: a policy that calls another one is not read. Templates can be read and laid out, and decide nothing: no
-//! link is read. What a reader of an answer would not see by it is told beside it, on standard error (`warnings`,
-//! `undecided`): errors of policies, templates, entities that are left out, steps that name no unknown, and why a
-//! known request stays open.
-//!
-//! - `commands`: the commands and their arguments, which `clap` reads, and the text of `--help`. `files`: the files
-//!   that arguments name. `run`: `answer_command`, which takes the words of a command line and answers what is to be
-//!   printed, with the exit status, or the lines of a refusal.
+//! - `commands`: the commands and their arguments, which `clap` reads. `files`: the files that arguments name. `run`:
+//!   `answer_command`, which takes the words of a command line.
 //! - `asked`, `policies`, `stores`, `ancestors`, `reading`, `limits`: what is asked, and the policies, entities,
 //!   requests and limits.
 //! - `decisions`, `partial`, `stages`, `steps`, `left`, `evaluations`: what is answered. `documents`, `readable`:
 //!   answers as JSON.
-//! - `refusal`, `faults`, `places`, `visible`: why a question is not answered, and where; texts as they are told.
+//! - `refusal`, `faults`, `places`, `visible`, `warnings`, `undecided`: why a question is not answered, and where; what
+//!   is told beside an answer.
 //!
-//! The promise: `authorize` is proved from the texts and the options on. What it prints is the decision on the policies,
-//! the entities and the request that the texts say (`answered`: `specs/Authorized.antt` over `specs/Questions.antt`, with
-//! the functions of `specs/Standard.antt` and the JSON of `specs/Documents.antt`); without a limit, and where nothing is
-//! unknown, `ALLOW` stands first exactly where the policies allow. It refuses for the reasons of `specs/Reasons.antt`
-//! alone (`refused`). `partially_authorize_with` is proved alike where it answers: the policies, the store and the request
-//! are those that the texts say, the responses those of a chain of steps, each by the map and the store that it names, the
-//! last has the headline, and the words of their decisions are printed in order (`answered`: `specs/Stages.antt` over
-//! `specs/Steps.antt`); `partially_authorize` hands it the standard functions and `unknown`. Each decision is printed with
-//! its status (`specs/Printing.antt`), and line and column are those of the byte (`specs/Noted.antt`). What `format`
-//! answers has the tokens and comments of its text (`format_policies`, `check_format`). A refused run has nothing to print
-//! by its type (`Answer`). The other public calls have no clause, but for `status_of`; what the commands print is tested
-//! by the tables of `cedar_test_cli`.
+//! The promise, from the texts and the options on: what `authorize` prints is the decision on the policies, the entities
+//! and the request that the texts say (`specs/Authorized`, over `Questions`, `Standard` and `Documents`), and it refuses
+//! for the reasons of `specs/Reasons` alone; `partially_authorize_with` prints the decisions of a chain of steps, of
+//! which the last has the headline (`specs/Stages`, over `Steps`); what `evaluate_expression` prints is the value
+//! (`specs/Evaluated`, `Visible`), and `format_policies` keeps tokens and comments. Words and statuses go by
+//! `specs/Printing`, lines and columns by `specs/Noted`. A refused run has nothing to print by its type (`Answer`).
+//! `docs/COMMANDS.md` describes each command and where these promises end; the rest is tested by `cedar_test_cli`.
 #![tactic(auto)]
 
 mod ancestors;
