@@ -13,7 +13,7 @@ returns g c =
     let w = c.args.deciding.way in
     record {
       answered = of_ok (IsPartlyAnsweredOver (extensions_view x) (calls_of x) ps s q steps w)
-    (IsPartlyAnsweredBy (extensions_view x) (calls_of x) ps q steps w)
-    (λ p h. record { store = s; store_is = c.in_ok-store.ensures.given; answered = h })
-    c.partially_authorize_over_store-printed.result c.partially_authorize_over_store-printed.ensures.answered;
+          (IsPartlyAnsweredBy (extensions_view x) (calls_of x) ps q steps w)
+          (λ p h. record { store = s; store_is = c.in_ok-store.ensures.given; answered = h })
+          c.partially_authorize_over_store-printed.result c.partially_authorize_over_store-printed.ensures.answered;
     }

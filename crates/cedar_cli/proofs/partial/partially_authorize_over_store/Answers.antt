@@ -1,9 +1,11 @@
 use Rattle.cedar_cli.proofs.partial.partially_authorize_over_store.Goals as goal
 
 pub returns : goal.returns
-returns g c = record { answered = record {
-  first = c.in_ok-stages.stages.first;
-  later = c.in_ok-stages.stages.later.items;
-  stages = c.in_ok-stages.ensures.stages;
-  printed = c.in_ok-printed.ensures;
-}; }
+returns g c = record {
+  answered = record {
+    first = c.in_ok-stages.stages.first;
+    later = c.in_ok-stages.stages.later.items;
+    stages = c.in_ok-stages.ensures.stages;
+    printed = c.in_ok-printed.ensures;
+  };
+}

@@ -13,7 +13,7 @@ returns g c =
     let w = c.args.way in
     record {
       answered = of_ok (IsPartlyAnsweredBy (extensions_view x) (calls_of x) parsed.policies q steps w)
-    (IsPartiallyAuthorized (these (signatures_of x)) (extensions_view x) (calls_of x) c.args.policies.text.now q steps w)
-    (λ p h. record { parsed = parsed; policies_are = c.in_ok-parsed.ensures.read; answered = h })
-    c.partially_authorize_parsed-printed.result c.partially_authorize_parsed-printed.ensures.answered;
+          (IsPartiallyAuthorized (these (signatures_of x)) (extensions_view x) (calls_of x) c.args.policies.text.now q steps w)
+          (λ p h. record { parsed = parsed; policies_are = c.in_ok-parsed.ensures.read; answered = h })
+          c.partially_authorize_parsed-printed.result c.partially_authorize_parsed-printed.ensures.answered;
     }
