@@ -21,7 +21,10 @@ use Rattle.cedar_requests.specs.declared.entry.EntityUIDEntry.TheVariants as ent
 use Rattle.cedar_requests.specs.declared.request.Request.{Request}
 use Rattle.cedar_requests.specs.Contexts.{context_view}
 use Rattle.cedar_requests.specs.Requests.{request_parts}
+use Rattle.cedar_functions.specs.Functions.{Knowledge}
 use Rattle.cedar_text_parser.specs.Paths.{IsEntityRead, IsNameRead}
+use Rattle.cedar_text_parser.specs.PolicyReading.{AreAllRead}
+use Rattle.cedar_text_parser.specs.declared.policies.ParsedPolicies.{ParsedPolicies}
 use Rattle.cedar_json_reader.specs.JsonTexts.{SaysSo}
 use Rattle.cedar_json_reader.specs.SaidContexts.{context_said, IsContextOf}
 use Rattle.cedar_json_reader.specs.SaidEntities.{entities_said}
@@ -33,6 +36,11 @@ use Rattle.cedar_cli.specs.declared.asked.Source.{Source}
 -- how many levels a text may have
 abbrev pub levels : ℕ
 levels = 4000
+
+-- the text's tokens derive these policies, whose calls are of functions that are known
+pub record ArePoliciesOf (text : Text) (parsed : ParsedPolicies) : Type 0 where
+  pub known : Knowledge
+  pub read : AreAllRead known text levels parsed
 
 -- ---- requests
 

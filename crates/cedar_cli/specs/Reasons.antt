@@ -78,6 +78,11 @@ pub record ArePoliciesUnread (k : Knowledge) (text : Text) : Type 0 where
   pub of_policies : IsOfPolicies first
   pub refused : AreTold k text levels (first ∷ others)
 
+-- the text is no policies, whichever functions are known
+pub record AreUnread (text : Text) : Type 0 where
+  pub known : Knowledge
+  pub unread : ArePoliciesUnread known text
+
 -- ---- the parts of a question
 
 -- the entity that is given can't be read or, where none is, the type

@@ -4,8 +4,8 @@ ghost use Rattle.cedar_functions.specs.Functions.{knowledge, these, signatures_o
 ghost use Rattle.cedar_text_formatter.specs.Formatted.{IsFormatted};
 ghost use Rattle.cedar_text_parser.specs.PolicyHeights.{with_scope, AreAllNoHigher};
 ghost use Rattle.cedar_text_parser.specs.PolicyReading.{AreAllRead};
-ghost use Rattle.cedar_cli.specs.Questions.{levels};
-ghost use Rattle.cedar_cli.specs.Reasons.{IsToldFor, IsOfPolicies, ArePoliciesUnread};
+ghost use Rattle.cedar_cli.specs.Questions.{levels, ArePoliciesOf};
+ghost use Rattle.cedar_cli.specs.Reasons.{IsToldFor, IsOfPolicies, ArePoliciesUnread, AreUnread};
 
 use crate::asked::Source;
 use crate::limits::LEVELS;
@@ -128,19 +128,36 @@ fn push_others(
 }
 
 // The policies that the text writes, which call standard functions and `unknown` alone.
-fn read_with_unknown(alloc: Global, source: Source<'_>) -> Result<ParsedPolicies, Refusal> {
+fn read_with_unknown(alloc: Global, source: Source<'_>) -> Result<ParsedPolicies, Refusal>
+    ensures read { IfOk result (ArePoliciesOf source.entry.text.now) }
+    ensures refused { IfErr result (IsToldFor (AreUnread source.entry.text.now)) }
+{
     let name = Name::new(RcStr::from_str(alloc, "partial_evaluation")?, None);
     let functions = vec![in alloc; ExtensionFunction::unknown(alloc)?]?;
     let all = vec![in alloc; Extension::new(name, functions, Vec::new(alloc))]?;
     match Extensions::with_standard(alloc, all.as_slice()) {
-        Ok(extensions) => read_over(alloc, source, &extensions),
+        Ok(extensions) => read_known(alloc, source, &extensions),
         Err(_) => Err(Refusal::Memory),
     }
 }
 
+fn read_known(
+    alloc: Global,
+    source: Source<'_>,
+    extensions: &Extensions<'_>,
+) -> Result<ParsedPolicies, Refusal>
+    ensures read { IfOk result (ArePoliciesOf source.entry.text.now) }
+    ensures refused { IfErr result (IsToldFor (AreUnread source.entry.text.now)) }
+{
+    read_over(alloc, source, extensions)
+}
+
 /// Whether the policies can be read, in which the standard functions and `unknown` may be called: if not, the first
 /// errors are told, each with its place, and how many more there are.
-pub fn check_policies(alloc: Global, source: Source<'_>) -> Result<(), Refusal> {
+pub fn check_policies(alloc: Global, source: Source<'_>) -> Result<(), Refusal>
+    ensures passed { OnOk result ((parsed : _) × ArePoliciesOf source.entry.text.now parsed) }
+    ensures refused { IfErr result (IsToldFor (AreUnread source.entry.text.now)) }
+{
     let parsed = read_with_unknown(alloc, source)?;
     drop(parsed);
     Ok(())
