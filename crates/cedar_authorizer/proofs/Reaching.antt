@@ -1,26 +1,30 @@
 -- A policy whose scope asks for none of the entities that a request covers is false.
-use Rattle.std.specs.Prelude.{◌≡◌, ◌⊎◌, ℕ, suc, ◌-◌, ◌≤◌, Bool, true, false, cond, ◌||◌, ◌&&◌, List, [], ◌∷◌, ◌++◌, Option, Some, None, is_some, codes}
+use Rattle.std.specs.Prelude.{◌≡◌, ℕ, suc, ◌-◌, ◌≤◌, Bool, true, false, cond, ◌||◌, ◌&&◌, List, [], ◌∷◌, ◌++◌, map, Option, Some, None, Ok, is_some, codes}
 use Rattle.std.proofs.Common.{inl, inr, refl, sym, ap, ◌∙◌, subst, arith}
-use Rattle.std.proofs.lemmas.Bool.{and_parts, and_from, eq-eqb, or_from}
-use Rattle.cedar_model.specs.Terms.{Text, EntityName, Literal, bool_literal, entity_literal, Variable, principal, action, resource, context}
-use Rattle.cedar_model.specs.Terms.{Term, literal, variable, both, binary, BinaryOperator, eq_operator, in_operator}
-use Rattle.cedar_model.specs.Values.{plain, Represented, plain_represented}
+use Rattle.std.proofs.lemmas.Bool.{and_parts, or_parts, or_from}
+use Rattle.cedar_model.specs.Terms.{EntityName, bool_literal, entity_literal, Variable, principal, action, resource, context}
+use Rattle.cedar_model.specs.Terms.{Term, literal, variable, slot, both, binary, BinaryOperator, eq_operator, in_operator}
+use Rattle.cedar_model.specs.Terms.{is_of_type, set_of, Terms, no_terms, one_term}
+use Rattle.cedar_model.specs.Values.{plain, Represented, plain_represented, set_represented, RepresentedValues, no_represented, one_represented, abstract_value, abstract_values}
+use Rattle.cedar_model.specs.Sets.{canonical_set}
 use Rattle.cedar_model.specs.Outcomes.{bool_of, entity_of, text_eq, entity_eq}
 use Rattle.cedar_model.specs.Keys.{value_eq}
 use Rattle.cedar_model.specs.lemmas.Keys.{value_eq-true}
-use Rattle.cedar_model.specs.Meaning.{entities_of, some_entity}
-use Rattle.cedar_model.specs.Failures.{value, Answer, answers, answers_bool, answers_value}
+use Rattle.cedar_model.specs.Meaning.{add_entity, entities_of_set, entities_of, some_entity}
+use Rattle.cedar_model.specs.Failures.{Failure, PartialValue, value, Answer, answers, answers_bool, answers_value}
 use Rattle.cedar_model.specs.Settings.{Entry, known_entry, unknown_entry, Store, StoredEntity, Resolution, shallow, deep, Setting, Found, found, not_there, not_known, look_up, is_among, entry_part, variable_part}
-use Rattle.cedar_model.specs.Operators.{binary_answer, binary_residual, in_found, expecting}
-use Rattle.cedar_model.specs.Rules.{MayAnswer, Resolves, StoredCalls, Runs, joined, bool_or_failure, binary_of_parts, binary_beside, beside_residual}
+use Rattle.cedar_model.specs.Operators.{slot_answer, binary_answer, binary_residual, in_found, expecting}
+use Rattle.cedar_model.specs.Rules.{MayAnswer, Resolves, StoredCalls, Runs, Parts, joined, bool_or_failure, binary_of_parts, binary_beside, beside_residual, is_part, part_then, add_value, values_of_parts, set_answer, set_of_parts}
 use Rattle.cedar_model.specs.Responses.{with_slots}
 use Rattle.cedar_requests.specs.Requests.{entry_name}
 use Rattle.cedar_layers.specs.declared.policies.policy.Policy as layers
 use Rattle.cedar_layers.specs.Policies.{PolicyView, policy_view, condition_term, decides_as}
-use Rattle.cedar_layers.specs.Scopes.{compares, is_entity_variable, literal_entity, compared_entity, is_truth, IsBoundTo, IsBoundElsewhere, AreAllBut, AreWithinReach}
+use Rattle.cedar_layers.specs.Scopes.{is_entity_variable, literal_entity, in_front, listed_entities, only, named_entity, place_entities, sought_entities, compared_entities, is_type_test, asked_entities, is_truth, is_told}
+use Rattle.cedar_layers.specs.Scopes.{IsBoundTo, have_common, IsBoundElsewhere, AreAllBut, AreWithinReach}
 use Rattle.cedar_authorizer.specs.Reaching.{IsFoundCovered, IsEntityCovered, IsEntryCovered, AreCovered, IsCoveredBy, Covers}
 use Rattle.cedar_authorizer.specs.Telling.{IsFalse, deciding_these}
 use Rattle.cedar_model.proofs.Injections.{some_inj, none_is_not_some, false_is_not_true, true_is_not_false}
+use Rattle.cedar_model.proofs.RestrictedAnswers.{AllSuch, EachSuch, set_such}
 use Rattle.cedar_names.specs.EqualityLaws.{entity_eq-decides}
 use Rattle.cedar_names.proofs.Among.{is_among-before, is_among-behind, is_among-self}
 
@@ -50,82 +54,125 @@ unfolding is_truth
 is_truth_of (literal (bool_literal b)) h = ap (λ x. literal (bool_literal x)) h
 is_truth_of t h = absurd (false_is_not_true h)
 
-record IsComparison (t : Term) (e : EntityName) : Type 0 where
-  pub op : BinaryOperator
-  pub x : Variable
-  pub is : t ≡ binary op (variable x) (literal (entity_literal e))
-  pub of_op : compares op ≡ true
-  pub of_variable : IsOfRequest x
+only_one : (o : Option EntityName) (ds : List EntityName) → only o ≡ Some ds → (e : EntityName) × (o ≡ Some e) × (ds ≡ e ∷ [])
+only_one (Some e) ds h = (e, refl, sym (some_inj h))
+only_one None ds h = absurd (none_is_not_some h)
 
-is_comparison_of : (t : Term) (e : EntityName) → compared_entity t ≡ Some e → IsComparison t e
-unfolding compared_entity
-is_comparison_of (binary op a b) e h = by (compares op) refl (is_entity_variable a) refl h
-  where
-    by : (p : Bool) → compares op ≡ p → (q : Bool) → is_entity_variable a ≡ q → cond (p && q) (literal_entity b) None ≡ Some e → IsComparison (binary op a b) e
-    by true f true g k =
-        let z = is_variable a g in
-        record {
-          op = op;
-          x = z.0;
-          is = λ i. binary op (z.1 i) (is_literal_of b e k i);
-          of_op = f;
-          of_variable = z.2;
-        }
-    by true f false g k = absurd (none_is_not_some k)
-    by false f q g k = absurd (none_is_not_some k)
-is_comparison_of t e h = absurd (none_is_not_some h)
-
--- ---- what a comparison answers
+-- ---- entities that are none of those covered
 
 abbrev uid_value : EntityName → Represented
 uid_value e = plain_represented (entity_literal e)
 
--- a boolean, which is false where the entity is none of these
-record Tells (es : List EntityName) (e : EntityName) (a : Answer) : Type 0 where
+module _ (es ds : List EntityName) where
+  -- it is none of the first, where none of the second is
+  abbrev IsApart : EntityName → Type 0
+  IsApart e = have_common ds es ≡ false → is_among e es ≡ false
+
+  abbrev AreApart : List EntityName → Type 0
+  AreApart [] = Unit {0}
+  AreApart (c ∷ cs) = IsApart c × AreApart cs
+
+  each_apart : (cs : List EntityName) → (have_common ds es ≡ false → have_common cs es ≡ false) → AreApart cs
+  each_apart [] h = tt
+  each_apart (c ∷ cs) h = (
+    λ none. (or_parts (is_among c es) (have_common cs es) (h none)).0,
+    each_apart cs (λ none. (or_parts (is_among c es) (have_common cs es) (h none)).1),
+  )
+
+  -- a test that fails of what is none of the first fails of such
+  none_passes : (test : EntityName → Bool) (cs : List EntityName) → ((e : EntityName) → is_among e es ≡ false → test e ≡ false) → have_common ds es ≡ false → AreApart cs → some_entity test cs ≡ false
+  unfolding some_entity
+  none_passes test [] so none h = refl
+  none_passes test (c ∷ cs) so none h =
+      or_from (test c) (some_entity test cs) (so c (h.0 none)) (none_passes test cs so none h.1)
+
+  -- ---- what may stand to the right of `in`
+
+  record IsPlace (v : Represented) : Type 0 where
+    pub members : List EntityName
+    pub are : entities_of (abstract_value v) ≡ Some members
+    pub apart : AreApart members
+
+  one_place : (e : EntityName) → ds ≡ e ∷ [] → IsPlace (uid_value e)
+  unfolding entities_of
+  one_place e same = record {
+    members = e ∷ [];
+    are = refl;
+    apart = each_apart (e ∷ []) (λ none. ap (λ cs. have_common cs es) (sym same) ∙ none);
+  }
+
+  abbrev IsEntityApart : Represented → Type 0
+  IsEntityApart v = (e : EntityName) × (v ≡ uid_value e) × IsApart e
+
+  all_entities : (cs : List EntityName) → AreApart cs → AllSuch IsEntityApart (map uid_value cs)
+  all_entities [] h = tt
+  all_entities (c ∷ cs) h = ((c, refl, h.0), all_entities cs h.1)
+
+  members_of : (vs : RepresentedValues) → EachSuch IsEntityApart vs → (cs : List EntityName) × (entities_of_set (abstract_values vs) ≡ Some cs) × AreApart cs
+  unfolding entities_of_set add_entity entity_of
+  members_of no_represented h = ([], refl, tt)
+  members_of (one_represented v vs) ((e, is, apart), h) =
+      let z = members_of vs h in
+      (e ∷ z.0, λ i. add_entity (entity_of (abstract_value (is i))) (z.1 i), (apart, z.2))
+
+  set_place : IsPlace (set_represented (canonical_set (map uid_value ds)))
+  unfolding entities_of
+  set_place =
+      let all = all_entities ds (each_apart ds (λ none. none)) in
+      let z = members_of (canonical_set (map uid_value ds)) (set_such IsEntityApart (map uid_value ds) all) in
+      record { members = z.0; are = z.1; apart = z.2 }
+
+-- ---- what a comparison answers
+
+-- a boolean, which is false where none of these is among the first
+record Tells (es ds : List EntityName) (a : Answer) : Type 0 where
   pub truth : Bool
   pub is : a ≡ answers_bool truth
-  pub elsewhere : is_among e es ≡ false → truth ≡ false
+  pub elsewhere : have_common ds es ≡ false → truth ≡ false
 
 same_entity : {d e : EntityName} → plain (entity_literal d) ≡ plain (entity_literal e) → d ≡ e
 same_entity h = cc
 
-module _ (es : List EntityName) (u e : EntityName) (own : is_among u es ≡ true) where
-  -- another entity
-  apart : (b : Bool) → (b ≡ true → u ≡ e) → is_among e es ≡ false → b ≡ false
-  apart true same h = absurd (true_is_not_false own (ap (λ d. is_among d es) (same refl) ∙ h))
-  apart false same h = refl
+expected : (A : Type 0) (o : Option A) (x : A) (failure : Failure) (next : A → Answer) → o ≡ Some x → expecting o failure next ≡ next x
+unfolding expecting
+expected A o x failure next is = ap (λ z. expecting z failure next) is
 
-  equals : (s : Setting) → Tells es e (binary_answer s eq_operator (uid_value u) (uid_value e))
+module _ (es ds : List EntityName) (u : EntityName) (own : is_among u es ≡ true) where
+  -- another entity
+  apart : (e : EntityName) (b : Bool) → (b ≡ true → u ≡ e) → is_among e es ≡ false → b ≡ false
+  apart e true same h = absurd (true_is_not_false own (ap (λ d. is_among d es) (same refl) ∙ h))
+  apart e false same h = refl
+
+  another : (e : EntityName) → is_among e es ≡ false → entity_eq u e ≡ false
+  another e h = apart e (entity_eq u e) ((entity_eq-decides u e).0) h
+
+  equals : (s : Setting) (e : EntityName) → ds ≡ e ∷ [] → Tells es ds (binary_answer s eq_operator (uid_value u) (uid_value e))
   unfolding binary_answer
-  equals s = record {
+  equals s e same = record {
     truth = value_eq (plain (entity_literal u)) (plain (entity_literal e));
     is = refl;
-    elsewhere = apart (value_eq (plain (entity_literal u)) (plain (entity_literal e))) (λ h. same_entity (value_eq-true _ _ h));
+    elsewhere = λ none. apart e (value_eq (plain (entity_literal u)) (plain (entity_literal e))) (λ h. same_entity (value_eq-true _ _ h))
+        ((or_parts (is_among e es) false (ap (λ cs. have_common cs es) (sym same) ∙ none)).0);
   }
 
-  stands_in : (f : Found) → IsFoundCovered es f → Tells es e (in_found f u (uid_value e))
-  unfolding in_found entities_of some_entity expecting
-  stands_in (found d) above = record {
-    truth = (entity_eq u e || is_among e d.ancestors) || false;
-    is = refl;
-    elsewhere = λ h. or_from _ false (or_from (entity_eq u e) (is_among e d.ancestors) (apart (entity_eq u e) ((entity_eq-decides u e).0) h) (none_above (is_among e d.ancestors) refl h)) refl;
+  stands_in : (f : Found) (v : Represented) → IsFoundCovered es f → IsPlace es ds v → Tells es ds (in_found f u v)
+  unfolding in_found
+  stands_in (found d) v above place = record {
+    truth = some_entity (λ e. entity_eq u e || is_among e d.ancestors) place.members;
+    is = expected (List EntityName) _ place.members _ (λ cs. answers_bool (some_entity (λ e. entity_eq u e || is_among e d.ancestors) cs)) place.are;
+    elsewhere = λ none. none_passes es ds (λ e. entity_eq u e || is_among e d.ancestors) place.members
+        (λ e h. or_from (entity_eq u e) (is_among e d.ancestors) (another e h) (none_above e (is_among e d.ancestors) refl h)) none place.apart;
   }
     where
-      none_above : (b : Bool) → is_among e d.ancestors ≡ b → is_among e es ≡ false → is_among e d.ancestors ≡ false
-      none_above true g h = absurd (true_is_not_false (above e g) h)
-      none_above false g h = g
-  stands_in not_there above = record {
-    truth = entity_eq u e || false;
-    is = refl;
-    elsewhere = λ h. or_from (entity_eq u e) false (apart (entity_eq u e) ((entity_eq-decides u e).0) h) refl;
+      none_above : (e : EntityName) (b : Bool) → is_among e d.ancestors ≡ b → is_among e es ≡ false → is_among e d.ancestors ≡ false
+      none_above e true g h = absurd (true_is_not_false (above e g) h)
+      none_above e false g h = g
+  stands_in not_there v above place = record {
+    truth = some_entity (entity_eq u) place.members;
+    is = expected (List EntityName) _ place.members _ (λ cs. answers_bool (some_entity (entity_eq u) cs)) place.are;
+    elsewhere = λ none. none_passes es ds (entity_eq u) place.members another none place.apart;
   }
-  stands_in not_known above = absurd above
-
-  compared : (s : Setting) (op : BinaryOperator) → compares op ≡ true → IsFoundCovered es (look_up s.store u) → Tells es e (binary_answer s op (uid_value u) (uid_value e))
-  unfolding compares binary_answer entity_of expecting
-  compared s eq_operator h above = equals s
-  compared s in_operator h above = stands_in (look_up s.store u) above
-  compared s op h above = absurd (false_is_not_true h)
+  stands_in not_known v above place = absurd above
 
 -- ---- what a variable stands for
 
@@ -147,14 +194,19 @@ module _ (s : Setting) (es : List EntityName) (covered : AreCovered s.request s.
   known_as resource h = of_entry resource s.request.resource_entry (codes "resource") refl covered.of_resource
   known_as context h = absurd h
 
--- ---- how scopes run
+-- ---- how what is named runs
 
--- what `==` and `in` read is no stored residual
-none_beside : (store : Store) (op : BinaryOperator) (v w : Represented) → compares op ≡ true → beside_residual store op (value v) (answers_value w) ≡ None
-unfolding compares beside_residual binary_residual
-none_beside store eq_operator v w h = refl
-none_beside store in_operator v w h = refl
-none_beside store op v w h = absurd (false_is_not_true h)
+abbrev entity_parts : List EntityName → List PartialValue
+entity_parts ds = map (λ d. value (uid_value d)) ds
+
+entity_values : (ds : List EntityName) → values_of_parts (entity_parts ds) ≡ Some (map uid_value ds)
+unfolding values_of_parts add_value
+entity_values [] = refl
+entity_values (d ∷ ds) = ap (add_value (value (uid_value d))) (entity_values ds)
+
+set_of_entities : (ds : List EntityName) → answers_value (set_represented (canonical_set (map uid_value ds))) ≡ set_answer (Ok (entity_parts ds))
+unfolding set_answer set_of_parts
+set_of_entities ds = sym (ap (λ o. set_of_parts o (entity_parts ds)) (entity_values ds))
 
 nothing_read : (May : MayAnswer) (q : Resolution) (o : Option Term) (b a : Answer) → o ≡ None → a ≡ b → Resolves May q o b a
 nothing_read May shallow o b a none is = is
@@ -162,22 +214,95 @@ nothing_read May deep None b a none is = is
 nothing_read May deep (Some t) b a none is = absurd (none_is_not_some (sym none))
 
 module _ (s : Setting) (calls : StoredCalls) where
-  literal_runs : (n : ℕ) (l : Literal) → Runs s calls (suc n) (literal l) (answers_value (plain_represented l))
-  literal_runs n l = refl
+  literal_runs : (n : ℕ) (t : Term) (e : EntityName) → literal_entity t ≡ Some e → Runs s calls (suc n) t (answers_value (uid_value e))
+  literal_runs n t e h = subst (λ x. Runs s calls (suc n) x (answers_value (uid_value e))) (sym (is_literal_of t e h)) refl
 
-  comparison_runs : (n : ℕ) (op : BinaryOperator) (x : Variable) (l : Literal) (v : Represented) (b : Bool) → compares op ≡ true → variable_part s.request x ≡ value v
-      → binary_answer s op v (plain_represented l) ≡ answers_bool b → Runs s calls (suc (suc n)) (binary op (variable x) (literal l)) (answers_bool b)
+  named_runs : (n : ℕ) (t : Term) (e : EntityName) → named_entity s.slots t ≡ Some e → Runs s calls (suc n) t (answers_value (uid_value e))
+  unfolding named_entity slot_answer
+  named_runs n (literal (entity_literal d)) e h = ap (λ x. answers_value (uid_value x)) (sym (some_inj h))
+  named_runs n (slot i) e h = ap (slot_answer i) (sym h)
+  named_runs n t e h = absurd (none_is_not_some h)
+
+  listed_run : (n : ℕ) (ts : Terms) (ds : List EntityName) → listed_entities ts ≡ Some ds → Parts (Runs s calls (suc n)) ts (Ok (entity_parts ds))
+  unfolding listed_entities part_then
+  listed_run n no_terms ds h = ap (λ cs. Ok (entity_parts cs)) (sym (some_inj h))
+  listed_run n (one_term t ts) ds h = by (literal_entity t) refl (listed_entities ts) refl h (listed_run n ts)
+    where
+      by : (o : Option EntityName) → literal_entity t ≡ o → (l : Option (List EntityName)) → listed_entities ts ≡ l → in_front o l ≡ Some ds
+          → ((cs : List EntityName) → listed_entities ts ≡ Some cs → Parts (Runs s calls (suc n)) ts (Ok (entity_parts cs)))
+          → Parts (Runs s calls (suc n)) (one_term t ts) (Ok (entity_parts ds))
+      by (Some e) f (Some cs) g k rest =
+          (answers_value (uid_value e), literal_runs n t e f, (Ok (entity_parts cs), rest cs g, ap (λ z. Ok (entity_parts z)) (sym (some_inj k))))
+      by (Some e) f None g k rest = absurd (none_is_not_some k)
+      by None f l g k rest = absurd (none_is_not_some k)
+
+  set_runs : (n : ℕ) (ts : Terms) (ds : List EntityName) → listed_entities ts ≡ Some ds → Runs s calls (suc (suc n)) (set_of ts) (answers_value (set_represented (canonical_set (map uid_value ds))))
+  set_runs n ts ds h = (Ok (entity_parts ds), listed_run n ts ds h, set_of_entities ds)
+
+  -- ---- comparisons
+
+  module _ (es : List EntityName) where
+    -- to the right of a comparison stands what makes it a boolean
+    record IsSought (n : ℕ) (op : BinaryOperator) (t : Term) (ds : List EntityName) : Type 0 where
+      pub right : Represented
+      pub runs : Runs s calls (suc (suc n)) t (answers_value right)
+      pub none_beside : (v : Represented) → beside_residual s.store op (value v) (answers_value right) ≡ None
+      pub tells : (u : EntityName) → IsEntityCovered s.store es u → Tells es ds (binary_answer s op (uid_value u) right)
+
+    in_place : (n : ℕ) (t : Term) (ds : List EntityName) (v : Represented) → Runs s calls (suc (suc n)) t (answers_value v) → IsPlace es ds v → IsSought n in_operator t ds
+    unfolding beside_residual binary_residual binary_answer entity_of expecting
+    in_place n t ds v runs place = record {
+      right = v;
+      runs = runs;
+      none_beside = λ w. refl;
+      tells = λ u c. stands_in es ds u c.own (look_up s.store u) v c.above place;
+    }
+
+    in_named : (n : ℕ) (t : Term) (ds : List EntityName) → only (named_entity s.slots t) ≡ Some ds → IsSought n in_operator t ds
+    in_named n t ds h =
+        let z = only_one (named_entity s.slots t) ds h in
+        in_place n t ds (uid_value z.0) (named_runs (suc n) t z.0 z.1) (one_place es ds z.0 z.2)
+
+    in_these : (n : ℕ) (t : Term) (ds : List EntityName) → place_entities s.slots t ≡ Some ds → IsSought n in_operator t ds
+    unfolding place_entities
+    in_these n (set_of ts) ds h =
+        in_place n (set_of ts) ds (set_represented (canonical_set (map uid_value ds))) (set_runs n ts ds h) (set_place es ds)
+    in_these n t ds h = in_named n t ds h
+
+    is_named : (n : ℕ) (t : Term) (ds : List EntityName) → only (named_entity s.slots t) ≡ Some ds → IsSought n eq_operator t ds
+    unfolding beside_residual binary_residual
+    is_named n t ds h =
+        let z = only_one (named_entity s.slots t) ds h in
+        record {
+          right = uid_value z.0;
+          runs = named_runs (suc n) t z.0 z.1;
+          none_beside = λ v. refl;
+          tells = λ u c. equals es ds u c.own s z.0 z.2;
+        }
+
+    sought : (n : ℕ) (op : BinaryOperator) (t : Term) (ds : List EntityName) → sought_entities s.slots op t ≡ Some ds → IsSought n op t ds
+    unfolding sought_entities
+    sought n eq_operator t ds h = is_named n t ds h
+    sought n in_operator t ds h = in_these n t ds h
+    sought n op t ds h = absurd (none_is_not_some h)
+
+  -- a variable beside what is to the right
+  comparison_runs : (n : ℕ) (op : BinaryOperator) (x : Variable) (t : Term) (v w : Represented) (b : Bool) → variable_part s.request x ≡ value v
+      → Runs s calls (suc n) t (answers_value w) → beside_residual s.store op (value v) (answers_value w) ≡ None → binary_answer s op v w ≡ answers_bool b
+      → Runs s calls (suc (suc n)) (binary op (variable x) t) (answers_bool b)
   unfolding binary_beside binary_of_parts
-  comparison_runs n op x l v b h part is = (
+  comparison_runs n op x t v w b part right none is = (
     answers_value v,
     sym (ap answers part),
     (
-      answers_value (plain_represented l),
-      literal_runs n l,
-      nothing_read (Runs s calls (suc n)) s.resolution (beside_residual s.store op (value v) (answers_value (plain_represented l)))
-          (binary_answer s op v (plain_represented l)) (answers_bool b) (none_beside s.store op v (plain_represented l) h) (sym is),
+      answers_value w,
+      right,
+      nothing_read (Runs s calls (suc n)) s.resolution (beside_residual s.store op (value v) (answers_value w))
+          (binary_answer s op v w) (answers_bool b) none (sym is),
     ),
   )
+
+  -- ---- constraints
 
   false_left : (n : ℕ) (t u : Term) → Runs s calls n t (answers_bool false) → Runs s calls (suc n) (both t u) (answers_bool false)
   unfolding bool_of
@@ -195,95 +320,146 @@ module _ (s : Setting) (calls : StoredCalls) where
   truth_runs : (n : ℕ) (t : Term) → is_truth t ≡ true → Runs s calls (suc n) t (answers_bool true)
   truth_runs n t h = subst (λ z. Runs s calls (suc n) z (answers_bool true)) (sym (is_truth_of t h)) refl
 
+  abbrev RunsAsBool : ℕ → Term → Type 0
+  RunsAsBool n t = (b : Bool) × Runs s calls n t (answers_bool b)
+
+  -- both are booleans, if the left one is true
+  both_run : (n : ℕ) (t u : Term) → RunsAsBool n t → RunsAsBool n u → RunsAsBool (suc n) (both t u)
+  both_run n t u (true, h) (b, g) = (b, true_left n t u b h g)
+  both_run n t u (false, h) (b, g) = (false, false_left n t u h)
+
   module _ (es : List EntityName) (covered : AreCovered s.request s.store es) where
-    record RunsAsBool (n : ℕ) (t : Term) (e : EntityName) : Type 0 where
+    test_runs : (n : ℕ) (t : Term) → is_type_test t ≡ true → RunsAsBool (suc (suc n)) t
+    unfolding is_type_test is_part expecting entity_of
+    test_runs n (is_of_type t name) h =
+        let z = is_variable t h in
+        let k = known_as s es covered z.0 z.2 in (
+          text_eq k.u.type_name name,
+          subst (λ x. Runs s calls (suc (suc n)) (is_of_type x name) (answers_bool (text_eq k.u.type_name name))) (sym z.1)
+              (answers_value (uid_value k.u), sym (ap answers k.part), refl),
+        )
+    test_runs n t h = absurd (false_is_not_true h)
+
+    -- a boolean, which is false where none of these is covered
+    record RunsAsAsked (n : ℕ) (t : Term) (ds : List EntityName) : Type 0 where
       pub truth : Bool
-      pub runs : Runs s calls (suc (suc n)) t (answers_bool truth)
-      pub elsewhere : is_among e es ≡ false → truth ≡ false
+      pub runs : Runs s calls n t (answers_bool truth)
+      pub elsewhere : have_common ds es ≡ false → truth ≡ false
 
-    compared_runs : (n : ℕ) (t : Term) (e : EntityName) → compared_entity t ≡ Some e → RunsAsBool n t e
-    compared_runs n t e h =
-        let c = is_comparison_of t e h in
-        let k = known_as s es covered c.x c.of_variable in
-        let tells = compared es k.u e k.entity_covered.own s c.op c.of_op k.entity_covered.above in
-        record {
-          truth = tells.truth;
-          runs = subst (λ z. Runs s calls (suc (suc n)) z (answers_bool tells.truth)) (sym c.is)
-              (comparison_runs n c.op c.x (entity_literal e) (uid_value k.u) tells.truth c.of_op k.part tells.is);
-          elsewhere = tells.elsewhere;
-        }
-
-    compared_false : (n : ℕ) (t : Term) (e : EntityName) → compared_entity t ≡ Some e → is_among e es ≡ false → Runs s calls (suc (suc n)) t (answers_bool false)
-    compared_false n t e h none =
-        let z = compared_runs n t e h in
-        subst (λ b. Runs s calls (suc (suc n)) t (answers_bool b)) (z.elsewhere none) z.runs
-
-    -- a constraint on the action that is a boolean
-    bool_runs : (n : ℕ) (t : Term) → (is_truth t || is_some (compared_entity t)) ≡ true → (b : Bool) × Runs s calls (suc (suc n)) t (answers_bool b)
-    bool_runs n t h = by (is_truth t) refl (compared_entity t) refl h
+    compared_runs : (n : ℕ) (t : Term) (ds : List EntityName) → compared_entities s.slots t ≡ Some ds → RunsAsAsked (suc (suc (suc n))) t ds
+    unfolding compared_entities
+    compared_runs n (binary op a b) ds h = by (is_entity_variable a) refl h
       where
-        by : (p : Bool) → is_truth t ≡ p → (o : Option EntityName) → compared_entity t ≡ o → (p || is_some o) ≡ true → (b : Bool) × Runs s calls (suc (suc n)) t (answers_bool b)
-        by true e o f k = (true, truth_runs (suc n) t e)
-        by false e (Some d) f k = let z = compared_runs n t d f in (z.truth, z.runs)
-        by false e None f k = absurd (false_is_not_true k)
+        by : (q : Bool) → is_entity_variable a ≡ q → cond q (sought_entities s.slots op b) None ≡ Some ds → RunsAsAsked (suc (suc (suc n))) (binary op a b) ds
+        by true f k =
+            let z = is_variable a f in
+            let v = known_as s es covered z.0 z.2 in
+            let right = sought es n op b ds k in
+            let tells = right.tells v.u v.entity_covered in
+            record {
+              truth = tells.truth;
+              runs = subst (λ x. Runs s calls (suc (suc (suc n))) (binary op x b) (answers_bool tells.truth)) (sym z.1)
+                  (comparison_runs (suc n) op z.0 b (uid_value v.u) right.right tells.truth v.part right.runs (right.none_beside (uid_value v.u)) tells.is);
+              elsewhere = tells.elsewhere;
+            }
+        by false f k = absurd (none_is_not_some k)
+    compared_runs n t ds h = absurd (none_is_not_some h)
 
-    module _ (n : ℕ) (p : PolicyView) (e : EntityName) (none : is_among e es ≡ false) where
-      abbrev scope_levels : ℕ
-      scope_levels = suc (suc (suc (suc (suc n))))
+    after_test : (n : ℕ) (t u : Term) (ds : List EntityName) → RunsAsBool n t → RunsAsAsked n u ds → RunsAsAsked (suc n) (both t u) ds
+    after_test n t u ds (true, h) c = record { truth = c.truth; runs = true_left n t u c.truth h c.runs; elsewhere = c.elsewhere }
+    after_test n t u ds (false, h) c = record { truth = false; runs = false_left n t u h; elsewhere = λ none. refl }
 
-      abbrev pair : Term
-      pair = both p.principal_constraint p.action_constraint
+    asked_runs : (n : ℕ) (t : Term) (ds : List EntityName) → asked_entities s.slots t ≡ Some ds → RunsAsAsked (suc (suc (suc (suc n)))) t ds
+    unfolding asked_entities
+    asked_runs n (both t u) ds h = by (is_type_test t) refl h
+      where
+        by : (q : Bool) → is_type_test t ≡ q → cond q (compared_entities s.slots u) None ≡ Some ds → RunsAsAsked (suc (suc (suc (suc n)))) (both t u) ds
+        by true f k = after_test (suc (suc (suc n))) t u ds (test_runs (suc n) t f) (compared_runs n u ds k)
+        by false f k = absurd (none_is_not_some k)
+    asked_runs n t ds h = compared_runs (suc n) t ds h
 
-      abbrev scope : Term
-      scope = both pair p.resource_constraint
+    asked_false : (n : ℕ) (t : Term) (ds : List EntityName) → asked_entities s.slots t ≡ Some ds → have_common ds es ≡ false → Runs s calls (suc (suc (suc (suc n)))) t (answers_bool false)
+    asked_false n t ds h none =
+        let z = asked_runs n t ds h in
+        subst (λ b. Runs s calls (suc (suc (suc (suc n)))) t (answers_bool b)) (z.elsewhere none) z.runs
 
-      -- the scope is false, or its first two parts are
-      by_scope : Runs s calls (suc (suc (suc (suc n)))) scope (answers_bool false) → Runs s calls scope_levels (condition_term p) (answers_bool false)
-      by_scope h = false_left (suc (suc (suc (suc n)))) scope p.when_clause h
+    told_runs : (n : ℕ) (t : Term) → is_told s.slots t ≡ true → RunsAsBool (suc (suc (suc (suc n)))) t
+    told_runs n t h = by (is_truth t) refl (is_type_test t) refl (asked_entities s.slots t) refl h
+      where
+        by : (p : Bool) → is_truth t ≡ p → (q : Bool) → is_type_test t ≡ q → (o : Option (List EntityName)) → asked_entities s.slots t ≡ o → (p || (q || is_some o)) ≡ true
+            → RunsAsBool (suc (suc (suc (suc n)))) t
+        by true d q e o f k = (true, truth_runs (suc (suc (suc n))) t d)
+        by false d true e o f k = test_runs (suc (suc n)) t e
+        by false d false e (Some ds) f k = let z = asked_runs n t ds f in (z.truth, z.runs)
+        by false d false e None f k = absurd (false_is_not_true k)
 
-      by_pair : Runs s calls (suc (suc (suc n))) pair (answers_bool false) → Runs s calls scope_levels (condition_term p) (answers_bool false)
-      by_pair h = by_scope (false_left (suc (suc (suc n))) pair p.resource_constraint h)
+-- ---- scopes
 
-      by_principal : compared_entity p.principal_constraint ≡ Some e → Runs s calls scope_levels (condition_term p) (answers_bool false)
-      by_principal h = by_pair (false_left (suc (suc n)) p.principal_constraint p.action_constraint (compared_false n p.principal_constraint e h none))
+module _ (s : Setting) (calls : StoredCalls) (es : List EntityName) (covered : AreCovered s.request s.store es) (n : ℕ) (p : PolicyView) (ds : List EntityName) (none : have_common ds es ≡ false) where
+  -- the setting in which the policy runs
+  abbrev own : Setting
+  own = with_slots s p.slots
 
-      by_action : is_truth p.principal_constraint ≡ true → compared_entity p.action_constraint ≡ Some e → Runs s calls scope_levels (condition_term p) (answers_bool false)
-      by_action any h =
-          by_pair (true_left (suc (suc n)) p.principal_constraint p.action_constraint false (truth_runs (suc n) p.principal_constraint any)
-          (compared_false n p.action_constraint e h none))
+  abbrev part_levels : ℕ
+  part_levels = suc (suc (suc (suc n)))
 
-      by_resource : is_truth p.principal_constraint ≡ true → (is_truth p.action_constraint || is_some (compared_entity p.action_constraint)) ≡ true → compared_entity p.resource_constraint ≡ Some e
-          → Runs s calls scope_levels (condition_term p) (answers_bool false)
-      by_resource any is_bool h =
-          let z = bool_runs n p.action_constraint is_bool in
-          by_scope (false_right (suc (suc (suc n))) pair p.resource_constraint z.0
-          (true_left (suc (suc n)) p.principal_constraint p.action_constraint z.0 (truth_runs (suc n) p.principal_constraint any) z.1)
-          (compared_false (suc n) p.resource_constraint e h none))
+  abbrev scope_levels : ℕ
+  scope_levels = suc (suc (suc part_levels))
 
-      if_any : (b : Bool) (o : Option EntityName) → cond b o None ≡ Some e → (b ≡ true) × (o ≡ Some e)
-      if_any true o h = (refl, h)
-      if_any false o h = absurd (none_is_not_some h)
+  abbrev pair : Term
+  pair = both p.principal_constraint p.action_constraint
 
-      bound_is_false : IsBoundTo p e → Runs s calls scope_levels (condition_term p) (answers_bool false)
-      bound_is_false (inl h) = by_principal h
-      bound_is_false (inr (inl h)) =
-          let z = if_any (is_truth p.principal_constraint) (compared_entity p.action_constraint) h in
-          by_action z.0 z.1
-      bound_is_false (inr (inr h)) =
-          let is_bool : Bool = is_truth p.action_constraint || is_some (compared_entity p.action_constraint) in
-          let z = if_any (is_truth p.principal_constraint && is_bool) (compared_entity p.resource_constraint) h in
-          let y = and_parts (is_truth p.principal_constraint) is_bool z.0 in
-          by_resource y.0 y.1 z.1
+  abbrev scope : Term
+  scope = both pair p.resource_constraint
+
+  abbrev Fails : Type 0
+  Fails = Runs own calls scope_levels (condition_term p) (answers_bool false)
+
+  -- the scope is false, or its first two parts are
+  by_scope : Runs own calls (suc (suc part_levels)) scope (answers_bool false) → Fails
+  by_scope h = false_left own calls (suc (suc part_levels)) scope p.when_clause h
+
+  by_pair : Runs own calls (suc part_levels) pair (answers_bool false) → Fails
+  by_pair h = by_scope (false_left own calls (suc part_levels) pair p.resource_constraint h)
+
+  by_principal : asked_entities p.slots p.principal_constraint ≡ Some ds → Fails
+  by_principal h = by_pair (false_left own calls part_levels p.principal_constraint p.action_constraint (asked_false own calls es covered n p.principal_constraint ds h none))
+
+  by_action : is_told p.slots p.principal_constraint ≡ true → asked_entities p.slots p.action_constraint ≡ Some ds → Fails
+  by_action told h =
+      let z = told_runs own calls es covered n p.principal_constraint told in
+      by_pair (false_right own calls part_levels p.principal_constraint p.action_constraint z.0 z.1 (asked_false own calls es covered n p.action_constraint ds h none))
+
+  by_resource : is_told p.slots p.principal_constraint ≡ true → is_told p.slots p.action_constraint ≡ true → asked_entities p.slots p.resource_constraint ≡ Some ds → Fails
+  by_resource told too h =
+      let z =
+      both_run own calls part_levels p.principal_constraint p.action_constraint (told_runs own calls es covered n p.principal_constraint told)
+      (told_runs own calls es covered n p.action_constraint too) in
+      by_scope (false_right own calls (suc part_levels) pair p.resource_constraint z.0 z.1 (asked_false own calls es covered (suc n) p.resource_constraint ds h none))
+
+  if_told : (b : Bool) (o : Option (List EntityName)) → cond b o None ≡ Some ds → (b ≡ true) × (o ≡ Some ds)
+  if_told true o h = (refl, h)
+  if_told false o h = absurd (none_is_not_some h)
+
+  bound_is_false : IsBoundTo p ds → Fails
+  bound_is_false (inl h) = by_principal h
+  bound_is_false (inr (inl h)) =
+      let z = if_told (is_told p.slots p.principal_constraint) (asked_entities p.slots p.action_constraint) h in
+      by_action z.0 z.1
+  bound_is_false (inr (inr h)) =
+      let z = if_told (is_told p.slots p.principal_constraint && is_told p.slots p.action_constraint) (asked_entities p.slots p.resource_constraint) h in
+      let y = and_parts (is_told p.slots p.principal_constraint) (is_told p.slots p.action_constraint) z.0 in
+      by_resource y.0 y.1 z.1
 
 -- ---- policies that are left out
 
-pub elsewhere_is_false : (s : Setting) (calls : StoredCalls) (levels : ℕ) (es : List EntityName) → 5 ≤ levels → AreCovered s.request s.store es → (p : PolicyView) → IsBoundElsewhere es p → IsFalse s calls levels (decides_as p)
-elsewhere_is_false s calls levels es enough covered p (e, bound, none) =
-    let same : suc (suc (suc (suc (suc (levels - 5))))) ≡ levels = omega (arith, enough) in
+pub elsewhere_is_false : (s : Setting) (calls : StoredCalls) (levels : ℕ) (es : List EntityName) → 7 ≤ levels → AreCovered s.request s.store es → (p : PolicyView) → IsBoundElsewhere es p → IsFalse s calls levels (decides_as p)
+elsewhere_is_false s calls levels es enough covered p (ds, bound, none) =
+    let same : suc (suc (suc (suc (suc (suc (suc (levels - 7))))))) ≡ levels = omega (arith, enough) in
     subst (λ n. Runs (with_slots s p.slots) calls n (condition_term p) (answers_bool false)) same
-    (bound_is_false (with_slots s p.slots) calls es covered (levels - 5) p e none bound)
+    (bound_is_false s calls es covered (levels - 7) p ds none bound)
 
-pub others_false : (s : Setting) (calls : StoredCalls) (levels : ℕ) (es : List EntityName) → 5 ≤ levels → AreCovered s.request s.store es → (ps qs : List layers.Policy) → AreWithinReach es ps qs → AreAllBut (IsFalse s calls levels) (deciding_these ps) (deciding_these qs)
+pub others_false : (s : Setting) (calls : StoredCalls) (levels : ℕ) (es : List EntityName) → 7 ≤ levels → AreCovered s.request s.store es → (ps qs : List layers.Policy) → AreWithinReach es ps qs → AreAllBut (IsFalse s calls levels) (deciding_these ps) (deciding_these qs)
 others_false s calls levels es enough covered [] qs h = ap deciding_these h
 others_false s calls levels es enough covered (p ∷ ps) qs (inl h) =
     inl (elsewhere_is_false s calls levels es enough covered (policy_view p) h.0, others_false s calls levels es enough covered ps qs h.1)

@@ -1,16 +1,18 @@
 -- Policies that an index looks at, counted.
-use Rattle.std.proofs.Common.{◌≡◌, ◌⊎◌, inl, inr, refl, sym, ap, ◌∙◌, subst, arith, ℕ, zero, suc, ◌+◌, ◌≤◌, Bool, true, false, cond, not, ◌||◌, ◌&&◌, List, [], ◌∷◌, length, Option, None, Some, is_some}
+use Rattle.std.proofs.Common.{◌≡◌, ◌⊎◌, inl, inr, refl, sym, ap, ◌∙◌, subst, arith, ℕ, ◌+◌, ◌≤◌, Bool, true, false, cond, not, ◌||◌, ◌&&◌, List, [], ◌∷◌, length, Option, None, Some, is_some}
 use Rattle.std.specs.Prelude.{filter, count_by, sum_by}
 use Rattle.std.specs.List.{list_any, list_all}
-use Rattle.std.proofs.lemmas.Bool.{or_cases, or_left, or_right}
+use Rattle.std.proofs.lemmas.Bool.{and_parts, or_cases, or_left, or_right}
 use Rattle.std.proofs.lemmas.List.Sums.{sum_by-cons}
 use Rattle.cedar_model.specs.Terms.{EntityName}
 use Rattle.cedar_model.specs.Outcomes.{entity_eq}
 use Rattle.cedar_model.specs.Settings.{is_among}
 use Rattle.cedar_layers.specs.declared.policies.policy.Policy.{Policy}
 use Rattle.cedar_layers.specs.Policies.{PolicyView, policy_view}
-use Rattle.cedar_layers.specs.Scopes.{principal_bound, action_bound, resource_bound, is_the, asks_for, is_in_rest, is_looked_at, IsBoundTo, IsBoundElsewhere, AreAllBut, AreWithinReach}
-use Rattle.cedar_laws.specs.Index.{is_none_but, is_reached, how_many, most_looked_at, these_that, ReachedAreWithinReach, ReachedAreBounded, LookedAtAreBounded, WithinReachAreFewer}
+use Rattle.cedar_names.specs.EqualityLaws.{entity_eq-decides}
+use Rattle.cedar_names.proofs.Among.{is_among-self}
+use Rattle.cedar_layers.specs.Scopes.{principal_bound, action_bound, resource_bound, have_common, is_one_of, asks_for, is_in_rest, is_looked_at, IsBoundElsewhere, AreAllBut}
+use Rattle.cedar_laws.specs.Index.{is_none_but, is_reached, ReachedAreWithinReach, ReachedAreBounded, LookedAtAreBounded, WithinReachAreFewer}
 
 -- ---- sums
 
@@ -111,45 +113,47 @@ same_passes {A = A} Such test fails (x ∷ xs) ys (inr h) =
 
 -- ---- scopes
 
--- one that is among these is asked for by one of these
-asked : (es : List EntityName) (f : EntityName → Bool) (d : EntityName) → ((e : EntityName) → entity_eq d e ≡ true → f e ≡ true) → is_among d es ≡ true → list_any f es ≡ true
+-- what passes a test, and is among these, is one of these that passes it
+one_asked : (es : List EntityName) (f : EntityName → Bool) (d : EntityName) → f d ≡ true → is_among d es ≡ true → list_any f es ≡ true
 unfolding is_among
-asked [] f d so h = absurd cc
-asked (e ∷ es) f d so h = by (or_cases (entity_eq d e) (is_among d es) h) (asked es f d so)
+one_asked [] f d so h = absurd cc
+one_asked (e ∷ es) f d so h = by (or_cases (entity_eq d e) (is_among d es) h) (one_asked es f d so)
   where
     by : (entity_eq d e ≡ true) ⊎ (is_among d es ≡ true) → (is_among d es ≡ true → list_any f es ≡ true) → (f e || list_any f es) ≡ true
-    by (inl g) rest = or_left (f e) (list_any f es) (so e g)
+    by (inl g) rest = or_left (f e) (list_any f es) (subst (λ c. f c ≡ true) ((entity_eq-decides d e).0 g) so)
     by (inr g) rest = or_right (f e) (list_any f es) (rest g)
 
+-- where lists have one in common, one of the second is asked for
+asked : (ds es : List EntityName) (f : EntityName → Bool) → ((e : EntityName) → is_among e ds ≡ true → f e ≡ true) → have_common ds es ≡ true → list_any f es ≡ true
+unfolding is_among
+asked [] es f so h = absurd cc
+asked (d ∷ ds) es f so h = by (or_cases (is_among d es) (have_common ds es) h) (asked ds es f (λ e g. so e (or_right (entity_eq e d) (is_among e ds) g)))
+  where
+    by : (is_among d es ≡ true) ⊎ (have_common ds es ≡ true) → (have_common ds es ≡ true → list_any f es ≡ true) → list_any f es ≡ true
+    by (inl g) rest = one_asked es f d (so d (is_among-self d ds)) g
+    by (inr g) rest = rest g
+
 -- where none is asked for but these, none is, or one of these
-looked_at : (es : List EntityName) (a b c : Option EntityName) → (is_none_but es a && (is_none_but es b && is_none_but es c)) ≡ true
-    → (not (is_some a || (is_some b || is_some c)) || list_any (λ e. is_the e a || (is_the e b || is_the e c)) es) ≡ true
+looked_at : (es : List EntityName) (a b c : Option (List EntityName)) → (is_none_but es a && (is_none_but es b && is_none_but es c)) ≡ true
+    → (not (is_some a || (is_some b || is_some c)) || list_any (λ e. is_one_of e a || (is_one_of e b || is_one_of e c)) es) ≡ true
 looked_at es None None None h = refl
-looked_at es None None (Some d) h = asked es (λ e. entity_eq d e) d (λ e g. g) h
-looked_at es None (Some d) c h = asked es (λ e. entity_eq d e || is_the e c) d (λ e g. or_left _ _ g) (first (is_among d es) (is_none_but es c) h)
-  where
-    first : (x y : Bool) → (x && y) ≡ true → x ≡ true
-    first true y g = refl
-    first false y g = g
-looked_at es (Some d) b c h = asked es (λ e. entity_eq d e || (is_the e b || is_the e c)) d (λ e g. or_left _ _ g) (first (is_among d es) (is_none_but es b && is_none_but es c) h)
-  where
-    first : (x y : Bool) → (x && y) ≡ true → x ≡ true
-    first true y g = refl
-    first false y g = g
+looked_at es None None (Some ds) h = asked ds es (λ e. is_among e ds) (λ e g. g) h
+looked_at es None (Some ds) c h = asked ds es (λ e. is_among e ds || is_one_of e c) (λ e g. or_left _ _ g) ((and_parts _ _ h).0)
+looked_at es (Some ds) b c h = asked ds es (λ e. is_among e ds || (is_one_of e b || is_one_of e c)) (λ e g. or_left _ _ g) ((and_parts _ _ h).0)
 
 reached_is_looked_at : (es : List EntityName) (p : PolicyView) → is_reached es p ≡ true → is_looked_at es p ≡ true
 reached_is_looked_at es p h = looked_at es (principal_bound p) (action_bound p) (resource_bound p) h
 
 -- what is bound elsewhere is not reached
-elsewhere : (es : List EntityName) (a b c : Option EntityName) (e : EntityName) → (a ≡ Some e) ⊎ ((b ≡ Some e) ⊎ (c ≡ Some e)) → is_among e es ≡ false
+elsewhere : (es : List EntityName) (a b c : Option (List EntityName)) (ds : List EntityName) → (a ≡ Some ds) ⊎ ((b ≡ Some ds) ⊎ (c ≡ Some ds)) → have_common ds es ≡ false
     → (is_none_but es a && (is_none_but es b && is_none_but es c)) ≡ false
-elsewhere es a b c e (inl h) apart = ap (λ (o : Option EntityName). is_none_but es o && (is_none_but es b && is_none_but es c)) h ∙ ap (λ x. x && (is_none_but es b && is_none_but es c)) apart
-elsewhere es a b c e (inr (inl h)) apart = last (is_none_but es a) _ (ap (λ (o : Option EntityName). is_none_but es o && is_none_but es c) h ∙ ap (λ x. x && is_none_but es c) apart)
+elsewhere es a b c ds (inl h) apart = ap (λ (o : Option (List EntityName)). is_none_but es o && (is_none_but es b && is_none_but es c)) h ∙ ap (λ x. x && (is_none_but es b && is_none_but es c)) apart
+elsewhere es a b c ds (inr (inl h)) apart = last (is_none_but es a) _ (ap (λ (o : Option (List EntityName)). is_none_but es o && is_none_but es c) h ∙ ap (λ x. x && is_none_but es c) apart)
   where
     last : (x y : Bool) → y ≡ false → (x && y) ≡ false
     last true y g = g
     last false y g = refl
-elsewhere es a b c e (inr (inr h)) apart = last (is_none_but es a) _ (last (is_none_but es b) _ (ap (is_none_but es) h ∙ apart))
+elsewhere es a b c ds (inr (inr h)) apart = last (is_none_but es a) _ (last (is_none_but es b) _ (ap (is_none_but es) h ∙ apart))
   where
     last : (x y : Bool) → y ≡ false → (x && y) ≡ false
     last true y g = g

@@ -1,19 +1,19 @@
 -- Which policies an index by scope looks at, and how many they can be.
 use Rattle.std.specs.Prelude.{◌≡◌, ◌≤◌, ◌+◌, ℕ, Bool, true, ◌&&◌, List, length, Option, Some, None, filter, count_by, sum_by}
 use Rattle.cedar_model.specs.Terms.{EntityName}
-use Rattle.cedar_model.specs.Settings.{is_among}
 use Rattle.cedar_layers.specs.declared.policies.policy.Policy.{Policy}
 use Rattle.cedar_layers.specs.Policies.{PolicyView, policy_view}
-use Rattle.cedar_layers.specs.Scopes.{principal_bound, action_bound, resource_bound, asks_for, is_in_rest, AreLookedAt, AreWithinReach}
+use Rattle.cedar_layers.specs.Scopes.{principal_bound, action_bound, resource_bound, have_common, asks_for, is_in_rest}
+use Rattle.cedar_layers.specs.Scopes.{AreLookedAt, AreWithinReach}
 
 -- ---- what scopes ask for
 
--- no entity is asked for, or it is one of these
-abbrev pub is_none_but : List EntityName → Option EntityName → Bool
+-- no entity is asked for, or one of several of which one is among these
+abbrev pub is_none_but : List EntityName → Option (List EntityName) → Bool
 is_none_but es None = true
-is_none_but es (Some e) = is_among e es
+is_none_but es (Some ds) = have_common ds es
 
--- it asks so of no other entities than these
+-- of principal, action and resource alike it asks so of none but these
 abbrev pub is_reached : List EntityName → PolicyView → Bool
 is_reached es p =
     is_none_but es (principal_bound p) && (is_none_but es (action_bound p) && is_none_but es (resource_bound p))

@@ -2,8 +2,9 @@
 ghost use Rattle.cedar_laws.specs.Index.{ReachedAreWithinReach, ReachedAreBounded, LookedAtAreBounded};
 ghost use Rattle.cedar_laws.specs.Index.{WithinReachAreFewer};
 
-/// Of the policies that `within_reach` answers, those whose scopes ask for no other entities than these are exactly
-/// those of the whole set that do, in order: an index loses none of them.
+/// Of the policies that `within_reach` answers, those whose scopes ask of principal, action and resource for nothing,
+/// or for entities of which one is among these, are exactly those of the whole set that do, in order: an index loses
+/// none of them.
 pub fn reached_policies_are_within_reach()
     ensures { ReachedAreWithinReach }
 {}

@@ -5,64 +5,47 @@ use Rattle.std.proofs.lemmas.List.Folds.{list_any-append, list_all-append}
 use Rattle.std.specs.List.{list_any}
 use Rattle.std.specs.Prelude.{slice_get}
 use Rattle.cedar_model.specs.Terms.{EntityName}
-use Rattle.cedar_model.specs.Outcomes.{entity_eq}
+use Rattle.cedar_model.specs.Settings.{is_among}
 use Rattle.cedar_layers.specs.declared.policies.policy.Policy.{Policy}
 use Rattle.cedar_layers.specs.declared.policies.scope_index.ScopeIndex.{ScopeIndex}
 use Rattle.cedar_layers.specs.Policies.{PolicyView, policy_view}
-use Rattle.cedar_layers.specs.Scopes.{principal_bound, action_bound, resource_bound, IsBoundTo, is_the, asks_for, is_looked_at, Groups, standing_under, has_position, is_looked_up, passes, AreFiledRight, Places, Extends, ReachesNoOther, AreOfPositions}
+use Rattle.cedar_layers.specs.Scopes.{principal_bound, action_bound, resource_bound, IsBoundTo, is_one_of, asks_for, is_looked_at, Groups, standing_under, has_position, is_looked_up, passes, AreFiledRight, Places, Extends, ReachesNoOther, AreOfPositions}
 use Rattle.cedar_model.proofs.Injections.{false_is_not_true}
-use Rattle.cedar_names.specs.EqualityLaws.{entity_eq-decides}
 
 -- ---- what one more policy changes
 
-the_same : (n : EntityName) (o : Option EntityName) → o ≡ Some n → is_the n o ≡ true
-the_same n o h = ap (is_the n) h ∙ (entity_eq-decides n n).1 refl
+one_of : (n : EntityName) (o : Option (List EntityName)) (ns : List EntityName) → is_among n ns ≡ true → o ≡ Some ns → is_one_of n o ≡ true
+one_of n o ns among h = ap (is_one_of n) h ∙ among
 
 -- what a scope is bound to it asks for
-bound_is_asked_for : (p : PolicyView) (n : EntityName) → IsBoundTo p n → asks_for n p ≡ true
-bound_is_asked_for p n (inl h) = or_left _ _ (the_same n (principal_bound p) h)
-bound_is_asked_for p n (inr (inl h)) = or_right _ _ (or_left _ _ (the_same n (action_bound p) h))
-bound_is_asked_for p n (inr (inr h)) = or_right _ _ (or_right _ _ (the_same n (resource_bound p) h))
-
--- in a list with one more it is before, or the last
-before_or_last : (j i : ℕ) (ns : List ℕ) → has_position j (ns ++ i ∷ []) ≡ true → (has_position j ns ≡ true) ⊎ ((j == i) ≡ true)
-before_or_last j i ns h = by (or_cases _ _ (sym (list_any-append (λ k. j == k) ns (i ∷ [])) ∙ h))
-  where
-    last : ((j == i) ≡ true) ⊎ (false ≡ true) → (has_position j ns ≡ true) ⊎ ((j == i) ≡ true)
-    last (inl e) = inr e
-    last (inr e) = absurd (false_is_not_true e)
-
-    by : (has_position j ns ≡ true) ⊎ (((j == i) || false) ≡ true) → (has_position j ns ≡ true) ⊎ ((j == i) ≡ true)
-    by (inl e) = inl e
-    by (inr e) = last (or_cases _ _ e)
+bound_is_asked_for : (p : PolicyView) (ns : List EntityName) → IsBoundTo p ns → (n : EntityName) → is_among n ns ≡ true → asks_for n p ≡ true
+bound_is_asked_for p ns (inl h) n among = or_left _ _ (one_of n (principal_bound p) ns among h)
+bound_is_asked_for p ns (inr (inl h)) n among =
+    or_right _ _ (or_left _ _ (one_of n (action_bound p) ns among h))
+bound_is_asked_for p ns (inr (inr h)) n among =
+    or_right _ _ (or_right _ _ (one_of n (resource_bound p) ns among h))
 
 -- the position j stood under one of these entities, or it is the position i of a policy that asks for one
 abbrev StoodOrAsks : Groups → ℕ → PolicyView → List EntityName → ℕ → Type 0
 StoodOrAsks old i p es j =
     (list_any (λ e. has_position j (standing_under old e)) es ≡ true) ⊎ (((j == i) ≡ true) × (list_any (λ e. asks_for e p) es ≡ true))
 
-module _ (old new : Groups) (n : EntityName) (i : ℕ) (more : Extends old new n i) where
-  -- what stands under an entity did, or is the new position under its entity
-  under_one : (j : ℕ) (m : EntityName) → has_position j (standing_under new m) ≡ true → (has_position j (standing_under old m) ≡ true) ⊎ (((j == i) ≡ true) × (m ≡ n))
-  under_one j m h = by (entity_eq m n) refl
+module _ (old new : Groups) (ns : List EntityName) (i : ℕ) (more : Extends old new ns i) where
+  -- what stands under an entity did, or is the new position under one of its entities
+  under_one : (j : ℕ) (m : EntityName) → has_position j (standing_under new m) ≡ true → (has_position j (standing_under old m) ≡ true) ⊎ (((j == i) ≡ true) × (is_among m ns ≡ true))
+  under_one j m h = by (or_cases _ _ (sym (more j m) ∙ h))
     where
-      here : m ≡ n → (has_position j (standing_under old n) ≡ true) ⊎ ((j == i) ≡ true) → (has_position j (standing_under old m) ≡ true) ⊎ (((j == i) ≡ true) × (m ≡ n))
-      here same (inl e) = inl (ap (λ (x : EntityName). has_position j (standing_under old x)) same ∙ e)
-      here same (inr e) = inr (e, same)
+      by : (has_position j (standing_under old m) ≡ true) ⊎ ((j == i && is_among m ns) ≡ true) → (has_position j (standing_under old m) ≡ true) ⊎ (((j == i) ≡ true) × (is_among m ns ≡ true))
+      by (inl k) = inl k
+      by (inr k) = inr (and_parts (j == i) (is_among m ns) k)
 
-      by : (b : Bool) → entity_eq m n ≡ b → (has_position j (standing_under old m) ≡ true) ⊎ (((j == i) ≡ true) × (m ≡ n))
-      by true e =
-          let same : m ≡ n = (entity_eq-decides m n).0 e in
-          here same (before_or_last j i (standing_under old n) (sym (ap (has_position j) more.here) ∙ sym (ap (λ (x : EntityName). has_position j (standing_under new x)) same) ∙ h))
-      by false e = inl (sym (ap (has_position j) (more.others m e)) ∙ h)
-
-  under_any : (j : ℕ) (p : PolicyView) → asks_for n p ≡ true → (es : List EntityName) → list_any (λ e. has_position j (standing_under new e)) es ≡ true → StoodOrAsks old i p es j
+  under_any : (j : ℕ) (p : PolicyView) → ((m : EntityName) → is_among m ns ≡ true → asks_for m p ≡ true) → (es : List EntityName) → list_any (λ e. has_position j (standing_under new e)) es ≡ true → StoodOrAsks old i p es j
   under_any j p asked [] h = absurd (false_is_not_true h)
   under_any j p asked (e ∷ es) h = by (or_cases _ _ h) (under_any j p asked es)
     where
-      first : (has_position j (standing_under old e) ≡ true) ⊎ (((j == i) ≡ true) × (e ≡ n)) → StoodOrAsks old i p (e ∷ es) j
+      first : (has_position j (standing_under old e) ≡ true) ⊎ (((j == i) ≡ true) × (is_among e ns ≡ true)) → StoodOrAsks old i p (e ∷ es) j
       first (inl k) = inl (or_left _ _ k)
-      first (inr k) = inr (k.0, or_left _ _ (ap (λ (x : EntityName). asks_for x p) k.1 ∙ asked))
+      first (inr k) = inr (k.0, or_left _ _ (asked e k.1))
 
       others : StoodOrAsks old i p es j → StoodOrAsks old i p (e ∷ es) j
       others (inl k) = inl (or_right _ _ k)
@@ -74,10 +57,10 @@ module _ (old new : Groups) (n : EntityName) (i : ℕ) (more : Extends old new n
       by (inr k) rest = others (rest k)
 
 module _ (old new : ScopeIndex) (i : ℕ) (p : PolicyView) where
-  -- under an entity that it is bound to
-  pub only_under : (n : EntityName) → new.rest.items ≡ old.rest.items → Extends old.groups.entries new.groups.entries n i → IsBoundTo p n
+  -- under entities that it is bound to
+  pub only_under : (ns : List EntityName) → new.rest.items ≡ old.rest.items → Extends old.groups.entries new.groups.entries ns i → IsBoundTo p ns
       → (es : List EntityName) (j : ℕ) → is_looked_up new es j ≡ true → (is_looked_up old es j || (j == i && is_looked_at es p)) ≡ true
-  only_under n e more bound es j h = by (or_cases _ _ h)
+  only_under ns e more bound es j h = by (or_cases _ _ h)
     where
       any : StoodOrAsks old.groups.entries i p es j → (is_looked_up old es j || (j == i && is_looked_at es p)) ≡ true
       any (inl k) = or_left _ _ (or_right _ _ k)
@@ -87,7 +70,7 @@ module _ (old new : ScopeIndex) (i : ℕ) (p : PolicyView) where
           → (is_looked_up old es j || (j == i && is_looked_at es p)) ≡ true
       by (inl k) = or_left _ _ (or_left _ _ (sym (ap (has_position j) e) ∙ k))
       by (inr k) =
-          any (under_any old.groups.entries new.groups.entries n i more j p (bound_is_asked_for p n bound) es k)
+          any (under_any old.groups.entries new.groups.entries ns i more j p (bound_is_asked_for p ns bound) es k)
 
 -- ---- of all policies of a list
 

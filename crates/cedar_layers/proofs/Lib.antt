@@ -5,5 +5,6 @@ pub mod Stores
 pub mod StoredValues
 pub mod Sound
 pub mod Picking
+pub mod Asking
 pub mod Filing
 pub mod Placing

@@ -1,4 +1,5 @@
 pub mod Policies
+pub mod Kinds
 pub mod Scopes
 pub mod PolicySets
 pub mod Parts

@@ -1,11 +1,14 @@
 -- What scopes ask of principal, action and resource, and the index of policies by the entities that their scopes name.
-use Rattle.std.specs.Prelude.{◌≡◌, ◌⊎◌, ℕ, ◌/◌, ◌==◌, nat_lt, Bool, true, false, cond, not, ◌&&◌, ◌||◌, List, [], ◌∷◌, ◌++◌, length, Option, None, Some, is_some, slice_get}
+use Rattle.std.specs.Prelude.{◌≡◌, ◌⊎◌, ℕ, map, option_map, ◌/◌, ◌==◌, nat_lt, Bool, true, false, cond, not, ◌&&◌, ◌||◌, List, [], ◌∷◌, ◌++◌, length, Option, None, Some, is_some, slice_get}
 use Rattle.std.specs.List.{list_any, list_all}
 use Rattle.std.specs.Map.{lookup}
 use Rattle.std.specs.declared.alloc.Global.{Global}
 use Rattle.std.specs.declared.vec.Vec.{Vec}
+use denote.Ref.{Bor}
 use Rattle.cedar_model.specs.Terms.{EntityName, bool_literal, entity_literal}
-use Rattle.cedar_model.specs.Terms.{principal, action, resource, Term, literal, variable, binary}
+use Rattle.cedar_model.specs.Terms.{principal, action, resource, Term, literal, variable, slot, both, binary}
+use Rattle.cedar_model.specs.Terms.{is_of_type, set_of, Terms, no_terms, one_term}
+use Rattle.cedar_model.specs.World.{Slots}
 use Rattle.cedar_model.specs.Terms.{BinaryOperator, eq_operator, in_operator}
 use Rattle.cedar_model.specs.Outcomes.{entity_eq}
 use Rattle.cedar_model.specs.Settings.{is_among}
@@ -17,12 +20,6 @@ use Rattle.cedar_layers.specs.Policies.{PolicyView, policy_view}
 use mathlib.Core.Bool.{Bool-set}
 
 -- ---- scopes
-
--- `==` and `in`
-unfoldable pub compares : BinaryOperator → Bool
-compares eq_operator = true
-compares in_operator = true
-compares op = false
 
 -- `principal`, `action` and `resource`
 unfoldable pub is_entity_variable : Term → Bool
@@ -36,45 +33,96 @@ unfoldable pub literal_entity : Term → Option EntityName
 literal_entity (literal (entity_literal e)) = Some e
 literal_entity t = None
 
--- the entity e of `x == e` and of `x in e`, where x is principal, action or resource
-unfoldable pub compared_entity : Term → Option EntityName
-compared_entity (binary op t u) = cond (compares op && is_entity_variable t) (literal_entity u) None
-compared_entity t = None
+-- an entity before others, where all are there
+abbrev pub in_front : Option EntityName → Option (List EntityName) → Option (List EntityName)
+in_front (Some e) (Some es) = Some (e ∷ es)
+in_front (Some e) None = None
+in_front None o = None
+
+-- the entities that a set lists, where it lists nothing else
+unfoldable pub listed_entities : Terms → Option (List EntityName)
+listed_entities no_terms = Some []
+listed_entities (one_term t ts) = in_front (literal_entity t) (listed_entities ts)
+
+-- that one alone
+abbrev pub only : Option EntityName → Option (List EntityName)
+only o = option_map (λ e. e ∷ []) o
+
+-- the entity that a literal is, or that a slot holds
+unfoldable pub named_entity : Slots → Term → Option EntityName
+named_entity ss (literal (entity_literal e)) = Some e
+named_entity ss (slot i) = ss i
+named_entity ss t = None
+
+-- what may stand to the right of `in`: such an entity, or a set of entities
+unfoldable pub place_entities : Slots → Term → Option (List EntityName)
+place_entities ss (set_of ts) = listed_entities ts
+place_entities ss t = only (named_entity ss t)
+
+-- the entities of one of which `== t` and `in t` ask
+unfoldable pub sought_entities : Slots → BinaryOperator → Term → Option (List EntityName)
+sought_entities ss eq_operator t = only (named_entity ss t)
+sought_entities ss in_operator t = place_entities ss t
+sought_entities ss op t = None
+
+-- the same of `x == t` and `x in t`, where x is principal, action or resource
+unfoldable pub compared_entities : Slots → Term → Option (List EntityName)
+compared_entities ss (binary op t u) = cond (is_entity_variable t) (sought_entities ss op u) None
+compared_entities ss t = None
+
+-- `x is T`, where x is principal, action or resource
+unfoldable pub is_type_test : Term → Bool
+is_type_test (is_of_type t n) = is_entity_variable t
+is_type_test t = false
+
+-- the same of a constraint: such a comparison, alone or after such a test
+unfoldable pub asked_entities : Slots → Term → Option (List EntityName)
+asked_entities ss (both t u) = cond (is_type_test t) (compared_entities ss u) None
+asked_entities ss t = compared_entities ss t
 
 -- `true`
 unfoldable pub is_truth : Term → Bool
 is_truth (literal (bool_literal b)) = b
 is_truth t = false
 
--- the entity that the principal must be or be in; and the action, where the principal may be any; and the resource, where
--- besides the constraint on the action is a boolean
-abbrev pub principal_bound : PolicyView → Option EntityName
-principal_bound p = compared_entity p.principal_constraint
+-- a constraint that is a boolean, whatever principal, action and resource are
+abbrev pub is_told : Slots → Term → Bool
+is_told ss t = is_truth t || (is_type_test t || is_some (asked_entities ss t))
 
-abbrev pub action_bound : PolicyView → Option EntityName
-action_bound p = cond (is_truth p.principal_constraint) (compared_entity p.action_constraint) None
+-- the entities, one of which the principal must be or be in; of the action, where the constraint on the principal is a
+-- boolean; of the resource, where that on the action is one too
+abbrev pub principal_bound : PolicyView → Option (List EntityName)
+principal_bound p = asked_entities p.slots p.principal_constraint
 
-abbrev pub resource_bound : PolicyView → Option EntityName
+abbrev pub action_bound : PolicyView → Option (List EntityName)
+action_bound p = cond (is_told p.slots p.principal_constraint) (asked_entities p.slots p.action_constraint) None
+
+abbrev pub resource_bound : PolicyView → Option (List EntityName)
 resource_bound p =
-    cond (is_truth p.principal_constraint && (is_truth p.action_constraint || is_some (compared_entity p.action_constraint)))
-    (compared_entity p.resource_constraint) None
+    cond (is_told p.slots p.principal_constraint && is_told p.slots p.action_constraint)
+    (asked_entities p.slots p.resource_constraint) None
 
--- the scope asks that one of the three is this entity or is in it
-abbrev pub IsBoundTo : PolicyView → EntityName → Type 0
-IsBoundTo p e = (principal_bound p ≡ Some e) ⊎ ((action_bound p ≡ Some e) ⊎ (resource_bound p ≡ Some e))
+-- the scope asks that one of the three is one of these entities or is in one
+abbrev pub IsBoundTo : PolicyView → List EntityName → Type 0
+IsBoundTo p es = (principal_bound p ≡ Some es) ⊎ ((action_bound p ≡ Some es) ⊎ (resource_bound p ≡ Some es))
 
--- it asks so of an entity that is none of these
+-- one of the first is among the second
+abbrev pub have_common : List EntityName → List EntityName → Bool
+have_common ds es = list_any (λ d. is_among d es) ds
+
+-- it asks so of entities none of which is one of these
 abbrev pub IsBoundElsewhere : List EntityName → PolicyView → Type 0
-IsBoundElsewhere es p = (e : EntityName) × IsBoundTo p e × (is_among e es ≡ false)
+IsBoundElsewhere es p = (ds : List EntityName) × IsBoundTo p ds × (have_common ds es ≡ false)
 
--- an entity is asked for, and it is this one
-abbrev pub is_the : EntityName → Option EntityName → Bool
-is_the e None = false
-is_the e (Some d) = entity_eq d e
+-- entities are asked for, and this is one of them
+abbrev pub is_one_of : EntityName → Option (List EntityName) → Bool
+is_one_of e None = false
+is_one_of e (Some ds) = is_among e ds
 
--- the scope asks that principal, action or resource is this entity or is in it
+-- the scope asks that principal, action or resource is this entity or is in it, or for one of several of which it is one
 abbrev pub asks_for : EntityName → PolicyView → Bool
-asks_for e p = is_the e (principal_bound p) || (is_the e (action_bound p) || is_the e (resource_bound p))
+asks_for e p =
+    is_one_of e (principal_bound p) || (is_one_of e (action_bound p) || is_one_of e (resource_bound p))
 
 -- it asks so of no entity
 abbrev pub is_in_rest : PolicyView → Bool
@@ -98,6 +146,24 @@ AreAllBut {A = A} Such (x ∷ xs) others =
 abbrev pub AreWithinReach : List EntityName → List Policy → List Policy → Type 0
 AreWithinReach es all some = AreAllBut (λ p. IsBoundElsewhere es (policy_view p)) all some
 
+-- ---- what is read of a scope
+
+-- the names of these entities
+abbrev pub names_at : List (Bor EntityUID) → List EntityName
+names_at us = map (λ u. uid_name u.now) us
+
+-- the same of those that were found, if any were
+abbrev pub names_found : Option (Vec (Bor EntityUID) Global) → Option (List EntityName)
+names_found o = option_map (λ v. names_at v.items) o
+
+-- what the resource asks for, or else what the action asks for; nothing, where the action asks for nothing and its
+-- constraint is no boolean
+abbrev pub resource_or_action :
+    Option (List EntityName) → Option (List EntityName) → Bool → Option (List EntityName)
+resource_or_action (Some r) (Some a) is_bool = Some r
+resource_or_action None (Some a) is_bool = Some a
+resource_or_action o None is_bool = cond is_bool o None
+
 -- ---- the index
 
 -- more than half of so many policies are in the rest
@@ -116,21 +182,21 @@ items_or_none (Some v) = v.items
 abbrev pub standing_under : Groups → EntityName → List ℕ
 standing_under es n = items_or_none (lookup (λ (u : EntityUID). entity_eq n (uid_name u)) es)
 
--- those under one, if it is one
-abbrev pub standing_at : Groups → Option EntityName → List ℕ
-standing_at es None = []
-standing_at es (Some n) = standing_under es n
-
 abbrev pub has_position : ℕ → List ℕ → Bool
 has_position i ns = list_any (λ j. i == j) ns
 
--- the policy at this position is in the rest, or stands under an entity that it is bound to
+-- it is under each of these entities, if there are some
+abbrev pub stands_under_each : Groups → ℕ → Option (List EntityName) → Bool
+stands_under_each es i None = false
+stands_under_each es i (Some ns) = list_all (λ n. has_position i (standing_under es n)) ns
+
+-- the policy at this position is in the rest, or stands under each of the entities that it is bound to
 abbrev pub is_placed : ScopeIndex → ℕ → PolicyView → Bool
 is_placed index i p =
     has_position i index.rest.items
-    || (has_position i (standing_at index.groups.entries (principal_bound p))
-    || (has_position i (standing_at index.groups.entries (action_bound p))
-    || has_position i (standing_at index.groups.entries (resource_bound p))))
+    || (stands_under_each index.groups.entries i (principal_bound p)
+    || (stands_under_each index.groups.entries i (action_bound p)
+    || stands_under_each index.groups.entries i (resource_bound p)))
 
 -- so is each of these policies
 abbrev pub ArePlaced : ScopeIndex → List Policy → Type 0
@@ -166,10 +232,11 @@ pub record Places (old new : ScopeIndex) (i : ℕ) (p : PolicyView) : Type 0 whe
   pub only : (es : List EntityName) (j : ℕ) → is_looked_up new es j ≡ true
       → (is_looked_up old es j || (j == i && is_looked_at es p)) ≡ true
 
--- the position stands under the entity too, and the others as they did
-pub record Extends (old new : Groups) (n : EntityName) (i : ℕ) : Type 0 where
-  pub here : standing_under new n ≡ standing_under old n ++ i ∷ []
-  pub others : (m : EntityName) → entity_eq m n ≡ false → standing_under new m ≡ standing_under old m
+-- what stands under entities is what did, and this position under these
+abbrev pub Extends : Groups → Groups → List EntityName → ℕ → Type 0
+Extends old new ns i =
+    (j : ℕ) (m : EntityName) → has_position j (standing_under new m)
+    ≡ (has_position j (standing_under old m) || (j == i && is_among m ns))
 
 -- each position that is not among these is that of a policy that is bound elsewhere than to these entities
 abbrev pub ReachesAll : ScopeIndex → List EntityName → List ℕ → Type 0

@@ -14,8 +14,8 @@ use cedar_layers::expressions::EntityUID;
 use cedar_layers::policies::{Dereference, Entities, Entity, Policy, PolicySet};
 use std::alloc::{AllocError, Global};
 
-// A scope's comparisons are so many levels below the condition.
-const SCOPE_LEVELS: usize = 5;
+// The entities that a scope names stand at most so many levels deep in the condition.
+const SCOPE_LEVELS: usize = 7;
 
 // An entity that is in more than so many is looked at further only where the index of the set is of use.
 const FEW_ANCESTORS: usize = 16;

@@ -291,6 +291,38 @@ impl Policy {
         &*self.when
     }
 
+    /// The constraint on the principal, shared.
+    pub fn principal_constraint_rc(&self) -> &Rc<Expr>
+        ensures whole { result.now.value ≡ (policy_parts self.now).principal }
+        ensures view { view result.now.value ≡ (policy_view self.now).principal_constraint }
+    {
+        &self.principal
+    }
+
+    /// The constraint on the action, shared.
+    pub fn action_constraint_rc(&self) -> &Rc<Expr>
+        ensures whole { result.now.value ≡ (policy_parts self.now).action }
+        ensures view { view result.now.value ≡ (policy_view self.now).action_constraint }
+    {
+        &self.action
+    }
+
+    /// The constraint on the resource, shared.
+    pub fn resource_constraint_rc(&self) -> &Rc<Expr>
+        ensures whole { result.now.value ≡ (policy_parts self.now).resource }
+        ensures view { view result.now.value ≡ (policy_view self.now).resource_constraint }
+    {
+        &self.resource
+    }
+
+    /// The when clause, shared.
+    pub fn when_clause_rc(&self) -> &Rc<Expr>
+        ensures whole { result.now.value ≡ (policy_parts self.now).when }
+        ensures view { view result.now.value ≡ (policy_view self.now).when_clause }
+    {
+        &self.when
+    }
+
     /// The condition, `((principal && action) && resource) && when`, each `&&` at the policy's location and each part
     /// as it was handed in. Its value is a boolean or an error. Refuses only if out of memory.
     pub fn condition(&self, alloc: Global) -> Result<Expr, AllocError>

@@ -131,7 +131,9 @@ impl PolicySet {
     }
 
     /// Whether the scopes of fewer than half of the policies are known to ask for an entity, so that `within_reach`
-    /// leaves out too few of them to be of use, whatever the entities are.
+    /// leaves out too few of them to be of use, whatever the entities are. A scope is known to ask for one by `==` or
+    /// `in` beside an entity, a linked slot or a set of entities, alone or after `is`, where the constraints before it
+    /// are booleans whatever the request is.
     pub fn leaves_out_few(&self) -> bool
         ensures { result ≡ leaves_out_few self.now }
     {
@@ -139,8 +141,9 @@ impl PolicySet {
     }
 
     /// The policies in order of insertion, but for some that are bound elsewhere: of which the scope asks that
-    /// principal, action or resource is an entity, or is in one, that is none of these. Those that are answered
-    /// ask so of no entity at all, or of one of these. None, where the index leaves out too few (`leaves_out_few`).
+    /// principal, action or resource is one of some entities, or is in one, none of which is one of these. Those that
+    /// are answered ask so of no entity at all, or of one of these. A slot stands for the entity that it is linked to;
+    /// one that is linked to none asks for no entity. None, where the index leaves out too few (`leaves_out_few`).
     /// Refuses only if out of memory.
     pub fn within_reach(
         &self,

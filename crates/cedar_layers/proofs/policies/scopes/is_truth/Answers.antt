@@ -1,7 +1,7 @@
 use Rattle.std.proofs.Common.{sym, ap, ◌∙◌}
 use Rattle.cedar_layers.specs.Scopes.{is_truth}
-use Rattle.cedar_layers.proofs.Placing.{no_truth}
-use Rattle.cedar_layers.proofs.policies.scope_index.is_truth.Goals as goal
+use Rattle.cedar_layers.proofs.Asking.{no_truth}
+use Rattle.cedar_layers.proofs.policies.scopes.is_truth.Goals as goal
 
 pub returns-in-Some : goal.returns-in-Some
 returns-in-Some c = c.is_true.ensures ∙ sym (ap is_truth c.in-Some.ensures)

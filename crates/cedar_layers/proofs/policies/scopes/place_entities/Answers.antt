@@ -1,0 +1,15 @@
+use Rattle.std.proofs.Common.{sym, ap, ◌∙◌}
+use Rattle.std.specs.Option.{option_map}
+use Rattle.cedar_expressions.specs.View.{view}
+use Rattle.cedar_layers.specs.Policies.{slots_view}
+use Rattle.cedar_layers.specs.Scopes.{only}
+use Rattle.cedar_layers.proofs.Asking.{of_parts, place_parts, found_as}
+use Rattle.cedar_layers.proofs.policies.scopes.place_entities.Goals as goal
+
+pub returns-in-Some : goal.returns-in-Some
+returns-in-Some c =
+    found_as c.listed_entities.result _ _ (sym (place_parts (slots_view c.args.slots.now) (view c.args.e.now) ∙ ap (of_parts _ _) (sym c.as_set.ensures ∙ ap (option_map _) c.in-Some.is))) c.listed_entities.ensures
+
+pub returns-in-None : goal.returns-in-None
+returns-in-None c =
+    found_as c.only.result _ _ (ap only c.named_entity.ensures ∙ sym (place_parts (slots_view c.args.slots.now) (view c.args.e.now) ∙ ap (of_parts _ _) (sym c.as_set.ensures ∙ ap (option_map _) c.in-None.is))) c.only.ensures
