@@ -30,7 +30,7 @@ impl<'e, 'f> Evaluator<'e, 'f> {
         alloc: Global,
         policy: &Policy,
     ) -> Result<Either<bool, Expr>, EvaluationError>
-        requires { 5 ≤ self.now.limit }
+        requires { 6 ≤ self.now.limit }
         ensures decides { PartlyDecidesBy (IsPromisedOf self.now policy.now) result }
         ensures place { IfLeaves result (λ e. expr_loc e ≡ policy_location policy.now) }
         ensures unknown { IfLeaves result (λ e. has_unknown (view e) ≡ true) }
@@ -40,7 +40,7 @@ impl<'e, 'f> Evaluator<'e, 'f> {
 
     // The value of the policy's condition, or what is left of it.
     fn joined_parts(&self, alloc: Global, policy: &Policy) -> Result<PartialValue, EvaluationError>
-        requires { 5 ≤ self.now.limit }
+        requires { 6 ≤ self.now.limit }
         ensures answer { RunsWith self.now (policy_view policy.now).slots self.now.limit (condition_term
             (policy_view policy.now)) (partial_answer result) }
         ensures place { IfOk result (λ p. partial_loc p ≡ policy_location policy.now) }
@@ -76,10 +76,10 @@ impl<'e, 'f> Evaluator<'e, 'f> {
         slots: &SlotEnv,
         levels: usize,
     ) -> Result<PartialValue, EvaluationError>
-        requires { 2 ≤ levels }
+        requires { 3 ≤ levels }
         ensures { RunsWith self.now (slots_view slots.now) levels (view e.now) (partial_answer result) }
     {
-        match self.direct_part(e) {
+        match self.direct_part(e, slots) {
             Some(b) => answer_at(Ok(bool_part(b)), e.source_loc().copied()),
             None => {
                 let evaluation = Evaluation {
@@ -101,7 +101,7 @@ impl<'e, 'f> Evaluator<'e, 'f> {
         levels: usize,
         loc: Option<Loc>,
     ) -> Result<PartialValue, EvaluationError>
-        requires { 2 ≤ levels }
+        requires { 3 ≤ levels }
         ensures answer { (t : Term) → RunsWith self.now (slots_view slots.now) levels t (partial_answer left) →
             RunsWith self.now (slots_view slots.now) (suc levels) (both t (view right.now)) (partial_answer result) }
         ensures place { IfOk result (λ p. partial_loc p ≡ loc) }
@@ -127,7 +127,7 @@ impl<'e, 'f> Evaluator<'e, 'f> {
         levels: usize,
         loc: Option<Loc>,
     ) -> Result<PartialValue, EvaluationError>
-        requires { 2 ≤ levels }
+        requires { 3 ≤ levels }
         ensures answer { (t : Term) → RunsWith self.now (slots_view slots.now) levels t (answers_value left.now.what) →
             RunsWith self.now (slots_view slots.now) (suc levels) (both t (view right.now)) (partial_answer result) }
         ensures place { IfOk result (λ p. partial_loc p ≡ loc) }
@@ -149,7 +149,7 @@ impl<'e, 'f> Evaluator<'e, 'f> {
         levels: usize,
         loc: Option<Loc>,
     ) -> Result<PartialValue, EvaluationError>
-        requires { 2 ≤ levels }
+        requires { 3 ≤ levels }
         ensures answer { (t : Term) → RunsWith self.now (slots_view slots.now) levels t (answers_residual
             (residual_term left)) → RunsWith self.now (slots_view slots.now) (suc levels) (both t (view right.now))
             (partial_answer result) }

@@ -4,7 +4,7 @@
 //!   `partial_evaluate`.
 //! - `conditions`: what a policy's condition decides. A scope whose parts are booleans or comparisons of known
 //!   entities is decided at once, by reference; whichever isn't goes to `joining`, which evaluates scope and clause
-//!   part by part and joins them. Below five levels the condition is made and goes through the loop of
+//!   part by part and joins them. Below six levels the condition is made and goes through the loop of
 //!   `cedar_interpreter`.
 //! - `request`: the names of `cedar_requests`, as users name them.
 //!

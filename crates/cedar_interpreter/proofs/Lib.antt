@@ -1,6 +1,7 @@
 pub mod Seen
 pub mod Requests
 pub mod Looked
+pub mod Within
 pub mod Types
 pub mod BooleanLaws
 pub mod KeptLaws

@@ -1,13 +1,15 @@
 //! Operators of one and of two operands, `like`, `is`, attributes and `has`, once their parts have answered.
-ghost use Rattle.std.specs.Prelude.{◌≡◌, true, false, None};
+ghost use Rattle.std.specs.Prelude.{◌≡◌, true, false, None, Some, IfSome};
 ghost use Rattle.std.specs.Rc.{rc_str_bytes};
 ghost use Rattle.cedar_model.specs.Terms.{unary, extended_has};
 ghost use Rattle.cedar_model.specs.Operators.{unary_answer, path_answer};
 ghost use Rattle.cedar_model.specs.Rules as Rules;
 ghost use Rattle.cedar_model.specs.Rules.{on_part};
-ghost use Rattle.cedar_model.specs.Settings.{RequestPart};
+ghost use Rattle.cedar_model.specs.Settings.{RequestPart, look_up};
+ghost use Rattle.cedar_names.specs.Names.{uid_name};
+ghost use Rattle.cedar_interpreter.specs.Known.{within};
 ghost use Rattle.cedar_names.specs.Leaves.{unary_view, binary_view, texts_view};
-ghost use Rattle.cedar_model.specs.Failures.{answers};
+ghost use Rattle.cedar_model.specs.Failures.{answers, answers_bool};
 ghost use Rattle.cedar_expressions.specs.View.{view, expr_loc};
 ghost use Rattle.cedar_values.specs.Residuals.{partial_view, residual_term};
 ghost use Rattle.cedar_layers.specs.Stores.{store_view};
@@ -20,13 +22,14 @@ ghost use Rattle.cedar_interpreter.specs.Endings.{boxed_answer};
 ghost use Rattle.cedar_interpreter.specs.declared.frame.Pending.TheVariants as pendings;
 
 use crate::answers::{answer_result_in, known_bool, put_at, taken_out, wait};
+use crate::at_hand::entity_at_hand;
 use crate::evaluation::Evaluation;
 use crate::frame::{Frame, Next, Pending, SharedExpr, Task};
 use crate::stopped::Stopped;
 use crate::stored::stored_in;
 use cedar_expressions::Expr;
 use cedar_frames::Transition;
-use cedar_names::{BinaryOp, EntityType, FirstRest, Pattern, UnaryOp};
+use cedar_names::{BinaryOp, EntityType, EntityUID, FirstRest, Pattern, UnaryOp, Var};
 use cedar_operators::partial::attributes::{
     Projected, attribute_of_part, extended_has_of_part, has_of_part,
 };
@@ -136,6 +139,28 @@ impl<'e, 'g, 'f> Evaluation<'e, 'g, 'f> {
         ensures { (r : RequestPart) → Gives (expr_loc whole.now.value) result (Rules.binary_of_parts
             (evaluation_setting r self.now) (binary_view op) (partial_view left.value) (partial_view right)) }
     {
+        match self.principal_within(op, &left, &right) {
+            Some(is_in) => {
+                drop(right);
+                drop(mem::replace(&mut *left, bool_part(is_in)));
+                put_at(whole, left)
+            }
+            None => self.apply_binary_parts(alloc, whole, op, left, right),
+        }
+    }
+
+    // The same of any operands.
+    fn apply_binary_parts(
+        &self,
+        alloc: Global,
+        whole: &SharedExpr,
+        op: BinaryOp,
+        mut left: Box<PartialValue>,
+        right: PartialValue,
+    ) -> Next
+        ensures { (r : RequestPart) → Gives (expr_loc whole.now.value) result (Rules.binary_of_parts
+            (evaluation_setting r self.now) (binary_view op) (partial_view left.value) (partial_view right)) }
+    {
         let left_part = taken_out(&mut left);
         let entities = self.given.entities;
         let extensions = self.given.extensions;
@@ -145,6 +170,45 @@ impl<'e, 'g, 'f> Evaluation<'e, 'g, 'f> {
             left,
             binary_of_parts(alloc, entities, extensions, op, left_part, right, None),
         )
+    }
+
+    // What `in` answers of the principal and an entity, where the principal's entity is at hand.
+    fn principal_within(
+        &self,
+        op: BinaryOp,
+        left: &PartialValue,
+        right: &PartialValue,
+    ) -> Option<bool>
+        ensures { IfSome result (λ b. (r : RequestPart) → Rules.binary_of_parts (evaluation_setting r self.now)
+            (binary_view op) (partial_view left.now) (partial_view right.now) ≡ answers_bool b) }
+    {
+        match op {
+            BinaryOp::In => match entity_at_hand(left) {
+                Some(uid) => match entity_at_hand(right) {
+                    Some(other) => self.is_principal_in(uid, other),
+                    None => None,
+                },
+                None => None,
+            },
+            _ => None,
+        }
+    }
+
+    // Whether the first entity is the second or in it, where the first is the principal and at hand.
+    fn is_principal_in(&self, uid: &EntityUID, other: &EntityUID) -> Option<bool>
+        ensures { IfSome result (λ b. within (look_up (store_view self.now.given.now.entities.now) (uid_name uid.now))
+            (uid_name uid.now) (uid_name other.now) ≡ Some b) }
+    {
+        match entity_at_hand(&self.given.principal) {
+            Some(principal) => {
+                if principal == uid {
+                    self.given.known.is_in(Var::Principal, uid, other)
+                } else {
+                    None
+                }
+            }
+            None => None,
+        }
     }
 
     // The attribute; with deep resolution a stored residual is evaluated.

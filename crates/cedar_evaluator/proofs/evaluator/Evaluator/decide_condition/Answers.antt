@@ -8,13 +8,13 @@ use Rattle.cedar_evaluator.proofs.evaluator.Evaluator.decide_condition.Goals as 
 pub returns-in-Some-true-clause-decides : goal.returns-in-Some-true-clause-decides
 returns-in-Some-true-clause-decides g c =
     c.decide_by_clause.ensures.decides
-    (of_some (λ b. AnswersFrom c.args.self.now 4 (scope_term (policy_view c.args.policy.now)) (answers_bool b)) c.direct_scope.result true
+    (of_some (λ b. AnswersFrom c.args.self.now (policy_view c.args.policy.now).slots 5 (scope_term (policy_view c.args.policy.now)) (answers_bool b)) c.direct_scope.result true
     (c.in-Some-true.is ∙ ap Some c.in-Some-true.field-0-test) c.direct_scope.ensures)
 
 pub returns-in-Some-false-clause-decides : goal.returns-in-Some-false-clause-decides
 returns-in-Some-false-clause-decides g c ok =
     let p = policy_view c.args.policy.now in
-    let direct = of_some (λ b. AnswersFrom c.args.self.now 4 (scope_term p) (answers_bool b)) c.direct_scope.result false
+    let direct = of_some (λ b. AnswersFrom c.args.self.now p.slots 5 (scope_term p) (answers_bool b)) c.direct_scope.result false
     (c.in-Some-false.is ∙ ap Some c.in-Some-false.field-0-test) c.direct_scope.ensures in
     bool_promised c.args.self.now p.slots c.args.self.now.limit (condition_term p) false
-    (beside_false_direct c.args.self.now 4 (scope_term p) p.when_clause direct c.args.self.now.limit c.if-self-lt5.false p.slots)
+    (beside_false_direct c.args.self.now p.slots 5 (scope_term p) p.when_clause direct c.args.self.now.limit c.if-self-lt6.false)

@@ -12,20 +12,20 @@ use Rattle.cedar_evaluator.proofs.Direct.{equal_direct, in_direct}
 use Rattle.cedar_evaluator.proofs.evaluator.Evaluator.direct_relation.Goals as goal
 
 pub returns-in-Eq : goal.returns-in-Eq
-returns-in-Eq g c t direct =
+returns-in-Eq g c slots t direct =
     let v = c.args.self.now in
     let x = variable_view c.args.var in
     let is : partial_view (given_for v.given x) ≡ value (plain_represented (entity_literal (uid_name c.in-Some.uid.now))) =
     ap partial_view (sym c.given_for.ensures) ∙ c.in-Some.ensures in
-    subst (λ (op : BinaryOp). AnswersFrom v 2 (binary (binary_view op) (variable x) t) (answers_bool c.eq.result)) (sym c.in-Eq.is)
-    (subst (λ b. AnswersFrom v 2 (binary eq_operator (variable x) t) (answers_bool b)) (sym c.eq.ensures)
-    (equal_direct v x t (uid_name c.in-Some.uid.now) (uid_name c.args.other.now) is direct))
+    subst (λ (op : BinaryOp). AnswersFrom v slots 2 (binary (binary_view op) (variable x) t) (answers_bool c.eq.result)) (sym c.in-Eq.is)
+    (subst (λ b. AnswersFrom v slots 2 (binary eq_operator (variable x) t) (answers_bool b)) (sym c.eq.ensures)
+    (equal_direct v slots x t (uid_name c.in-Some.uid.now) (uid_name c.args.other.now) is direct))
 
 pub returns-in-In : goal.returns-in-In
-returns-in-In g c t direct =
+returns-in-In g c slots t direct =
     let v = c.args.self.now in
     let x = variable_view c.args.var in
     let is : partial_view (given_for v.given x) ≡ value (plain_represented (entity_literal (uid_name c.in-Some.uid.now))) =
     ap partial_view (sym c.given_for.ensures) ∙ c.in-Some.ensures in
-    subst (λ (op : BinaryOp). IfSome c.is_in.result (λ b. AnswersFrom v 2 (binary (binary_view op) (variable x) t) (answers_bool b))) (sym c.in-In.is)
-    (in_direct v x t (uid_name c.in-Some.uid.now) (uid_name c.args.other.now) is direct c.is_in.result c.is_in.ensures)
+    subst (λ (op : BinaryOp). IfSome c.is_in.result (λ b. AnswersFrom v slots 2 (binary (binary_view op) (variable x) t) (answers_bool b))) (sym c.in-In.is)
+    (in_direct v slots x t (uid_name c.in-Some.uid.now) (uid_name c.args.other.now) is direct c.is_in.result c.is_in.ensures)

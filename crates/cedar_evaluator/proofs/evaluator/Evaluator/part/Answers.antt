@@ -11,7 +11,7 @@ pub returns-in-Some : goal.returns-in-Some
 returns-in-Some g c ok =
     let slots = slots_view c.args.slots.now in
     subst (Runs (setting_of c.args.self.now slots) (calls_in c.args.self.now) c.args.levels (view c.args.e.now))
-    (sym (c.answer_at.ensures.answer ∙ ap answers c.bool_part.ensures)) (c.in-Some.ensures c.args.levels c.requires slots)
+    (sym (c.answer_at.ensures.answer ∙ ap answers c.bool_part.ensures)) (c.in-Some.ensures c.args.levels c.requires)
 
 pub returns-in-None : goal.returns-in-None
 returns-in-None g c = c.interpret.ensures.runs (request_in c.args.self.now) (says (variables_of c.args.self.now.given) c.args.self.now.of_request)

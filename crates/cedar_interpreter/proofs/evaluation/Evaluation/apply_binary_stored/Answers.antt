@@ -1,15 +1,13 @@
-use Rattle.std.proofs.Common.{subst}
-use Rattle.cedar_names.specs.Leaves.{binary_view}
+use Rattle.std.proofs.Common.{sym, ap, ◌∙◌, subst}
+use Rattle.cedar_model.specs.Failures.{answers}
 use Rattle.cedar_expressions.specs.View.{expr_loc}
 use Rattle.cedar_values.specs.Residuals.{partial_view}
-use Rattle.cedar_interpreter.proofs.Operands.{parts_alike}
-use Rattle.cedar_interpreter.specs.Settings.{evaluation_setting}
 use Rattle.cedar_interpreter.specs.Tasks.{Gives}
 use Rattle.cedar_interpreter.proofs.evaluation.Evaluation.apply_binary_stored.Goals as goal
 
-pub returns : goal.returns
-returns g c r =
-    let s = evaluation_setting r c.args.self.now in
-    subst (Gives (expr_loc c.args.whole.now.value) c.answer_result_in.result)
-    (parts_alike s (binary_view c.args.op) (partial_view c.args.left.value) (partial_view c.args.right))
-    (c.answer_result_in.ensures _ (rw (c.taken_out-left_part.ensures, c.deref_mut.ensures.value) at c.binary_of_parts.ensures s))
+pub returns-in-Some : goal.returns-in-Some
+returns-in-Some g c r =
+    let told = rw (c.deref.ensures) at (c.in-Some.ensures r) in
+    subst (Gives (expr_loc c.args.whole.now.value) c.put_at.result)
+    (ap (λ p. answers (partial_view p)) c.replace.ensures.after ∙ ap answers c.bool_part.ensures ∙ sym told)
+    c.put_at.ensures.answer
