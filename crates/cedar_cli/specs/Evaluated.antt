@@ -21,13 +21,13 @@ use Rattle.cedar_text_parser.specs.Reading.{IsRead, IsNotParsed}
 use Rattle.cedar_text_parser.specs.declared.errors.ParseError.{ParseError}
 use Rattle.cedar_text_printer.specs.Texts.{written}
 use Rattle.cedar_json_reader.specs.JsonTexts.{SaysSo}
-use Rattle.cedar_json_reader.specs.SaidRequests.{IsRequestOf, IsRequestRefusal}
+use Rattle.cedar_json_reader.specs.SaidRequests.{IsRequestOf}
 use Rattle.cedar_json_writer.specs.Written as json
 use Rattle.cedar_cli.specs.declared.asked.Asked.{Asked}
 use Rattle.cedar_cli.specs.declared.asked.Source.{Source}
 use Rattle.cedar_cli.specs.declared.decisions.Printed.{Printed}
 use Rattle.cedar_cli.specs.Questions.{levels, IsOfParts, IsGivenStore}
-use Rattle.cedar_cli.specs.Reasons.{IsOfPolicies, IsJsonUnread, ArePartsUnread, IsStoreUnread}
+use Rattle.cedar_cli.specs.Reasons.{IsOfPolicies, IsPartialUnread, IsStoreUnread}
 use Rattle.cedar_cli.specs.Standard.{standard_extensions, standard_calls, standard_knowledge}
 use Rattle.cedar_cli.specs.Visible.{IsVisible}
 
@@ -37,11 +37,6 @@ use Rattle.cedar_cli.specs.Visible.{IsVisible}
 abbrev pub IsRequestOr : world.Extensions → StoredCalls → Option Source → Asked → Request → Type 0
 IsRequestOr X calls (Some s) q r = SaysSo s.text.now (λ j. IsRequestOf X calls levels j r)
 IsRequestOr X calls None q r = IsOfParts X calls q r
-
--- the request cannot be read, or its parts cannot
-abbrev pub AreRequestOrPartsUnread : world.Extensions → StoredCalls → Option Source → Asked → Type 0
-AreRequestOrPartsUnread X calls (Some s) q = IsJsonUnread s.text.now (λ j e. IsRequestRefusal X calls levels j e)
-AreRequestOrPartsUnread X calls None q = ArePartsUnread X calls q
 
 -- the limit of levels is the one that is set, if one is
 abbrev pub IsLimitOr : Option ℕ → ℕ → Type 0
@@ -118,7 +113,7 @@ pub record Errs (Answers : Answer → Type 0) : Type 0 where
 -- the request can't be read, or the answer is an error
 pub data IsUnvaluedOver (X : world.Extensions) (calls : StoredCalls) (e : Expr) (s : Entities) (q : Asked)
     (limit : Option ℕ) : Type 0 where
-  for_request : AreRequestOrPartsUnread X calls q.request q → IsUnvaluedOver X calls e s q limit
+  for_request : IsPartialUnread X calls q → IsUnvaluedOver X calls e s q limit
   for_error : Errs (IsAnswerOver X calls e s q limit) → IsUnvaluedOver X calls e s q limit
 
 -- the entities can't be read, or over them there is no value

@@ -37,7 +37,7 @@ use Rattle.cedar_cli.specs.declared.asked.Source.{Source}
 abbrev pub levels : ℕ
 levels = 4000
 
--- the text's tokens derive these policies, whose calls are of functions that are known
+-- there is a knowledge of functions by which the text's tokens derive these policies
 pub record ArePoliciesOf (text : Text) (parsed : ParsedPolicies) : Type 0 where
   pub known : Knowledge
   pub read : AreAllRead known text levels parsed

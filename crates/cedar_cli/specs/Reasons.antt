@@ -78,7 +78,7 @@ pub record ArePoliciesUnread (k : Knowledge) (text : Text) : Type 0 where
   pub of_policies : IsOfPolicies first
   pub refused : AreTold k text levels (first ∷ others)
 
--- the text is no policies, whichever functions are known
+-- there is a knowledge of functions by which the text is no policies
 pub record AreUnread (text : Text) : Type 0 where
   pub known : Knowledge
   pub unread : ArePoliciesUnread known text

@@ -1,5 +1,6 @@
 -- The stages of a partial answer: the first response, and what each step makes of the one before; and what is printed.
-use Rattle.std.specs.Prelude.{◌≡◌, ◌++◌, ℕ, Bool, true, false, List, [], ◌∷◌, map, Option, Some, None, Ok, codes, string_bytes}
+use Rattle.std.specs.Prelude.{◌≡◌, ◌++◌, ℕ, Bool, true, false, List, [], ◌∷◌, map}
+use Rattle.std.specs.Prelude.{Option, Some, None, Ok, codes, string_bytes}
 use Rattle.std.specs.Option.{unwrap_or}
 use Rattle.json.specs.Json.{Json, array, object}
 use Rattle.json.specs.Print.{print}

@@ -6,11 +6,11 @@ ghost use Rattle.cedar_errors.specs.Answers.{value_answer};
 ghost use Rattle.cedar_extensions.specs.Extensions.{extensions_view, calls_of};
 ghost use Rattle.cedar_functions.specs.Functions.{these, signatures_of};
 ghost use Rattle.cedar_text_parser.specs.Reading.{IsRead};
-ghost use Rattle.cedar_cli.specs.Evaluated.{IsRequestOr, AreRequestOrPartsUnread, IsAnswerBy, IsAnswerOver, IsAnswerOf, IsTextLine, IsLimitOr};
+ghost use Rattle.cedar_cli.specs.Evaluated.{IsRequestOr, IsAnswerBy, IsAnswerOver, IsAnswerOf, IsTextLine, IsLimitOr};
 ghost use Rattle.cedar_cli.specs.Evaluated.{IsValuePrinted, IsEvaluated, IsExpressionUnread, IsUnvaluedOver};
 ghost use Rattle.cedar_cli.specs.Evaluated.{IsUnvalued, IsUnevaluated};
 ghost use Rattle.cedar_cli.specs.Questions.{levels};
-ghost use Rattle.cedar_cli.specs.Reasons.{IsToldFor};
+ghost use Rattle.cedar_cli.specs.Reasons.{IsToldFor, IsPartialUnread};
 
 use crate::asked::{Asked, Source};
 use crate::decisions::Printed;
@@ -138,8 +138,8 @@ fn request_asked(
 ) -> Result<Request, Refusal>
     ensures asked { IfOk result (IsRequestOr (extensions_view extensions.now) (calls_of extensions.now)
         asked.now.request asked.now) }
-    ensures refused { IfErr result (IsToldFor (AreRequestOrPartsUnread (extensions_view extensions.now) (calls_of extensions.now)
-        asked.now.request asked.now)) }
+    ensures refused { IfErr result (IsToldFor
+        (IsPartialUnread (extensions_view extensions.now) (calls_of extensions.now) asked.now)) }
 {
     match asked.request {
         Some(_) => whole_request(alloc, asked, extensions),

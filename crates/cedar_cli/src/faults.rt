@@ -43,9 +43,9 @@ pub(crate) struct Repeated {
     pub(crate) key: RcStr,
 }
 
-/// What is wrong with a text that is no JSON: the byte where a token begins that can't stand there, or in it the escape or
-/// the character that can't; the one that opens one level more than may be open; else the end of the text, where more is
-/// due.
+/// What is wrong with a text that is no JSON: the byte where a token begins that can't stand there, or in it the escape
+/// or the character that can't; the one that opens one level more than may be open; else the end of the text, where
+/// more is due.
 pub(crate) fn syntax_fault(alloc: Global, text: &str) -> Result<Fault, AllocError> {
     let mut scratch = Scratch::new(alloc);
     let mut reader = Reader::new(text, &mut scratch)?;

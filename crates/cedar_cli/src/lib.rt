@@ -11,11 +11,11 @@
 //! - `refusal`, `faults`, `places`, `visible`, `warnings`, `undecided`: why a question is not answered, and where; what
 //!   is told beside an answer.
 //!
-//! The promise, from the texts and the options on: what `authorize` prints is the decision on the policies, the entities
-//! and the request that the texts say (`specs/Authorized`, over `Questions`, `Standard` and `Documents`), and it refuses
-//! for the reasons of `specs/Reasons` alone; `partially_authorize_with` prints the decisions of a chain of steps, of
-//! which the last has the headline (`specs/Stages`, over `Steps`); what `evaluate_expression` prints is the value
-//! (`specs/Evaluated`, `Visible`), and `format_policies` keeps tokens and comments. Words and statuses go by
+//! The promise, from the texts and the options on: what `authorize` prints is the decision on the policies, the
+//! entities and the request that the texts say (`specs/Authorized`, over `Questions`, `Standard` and `Documents`), and
+//! it refuses for the reasons of `specs/Reasons` alone; `partially_authorize_with` prints the decisions of a chain of
+//! steps, of which the last has the headline (`specs/Stages`, over `Steps`); what `evaluate_expression` prints is the
+//! value (`specs/Evaluated`, `Visible`), and `format_policies` keeps tokens and comments. Words and statuses go by
 //! `specs/Printing`, lines and columns by `specs/Noted`. A refused run has nothing to print by its type (`Answer`).
 //! `docs/COMMANDS.md` describes each command and where these promises end; the rest is tested by `cedar_test_cli`.
 #![tactic(auto)]

@@ -26,8 +26,8 @@ pub(crate) fn expression_limit(expr: &Expr, request: &Request, stored: usize) ->
     levels_for(expr_height(expr), given_height(request, stored))
 }
 
-/// How many levels are evaluated where parts may be unknown: as many as are set or, where none are, as many as there can
-/// be, so that no policy meets the limit.
+/// How many levels are evaluated where parts may be unknown: as many as are set or, where none are, as many as there
+/// can be, so that no policy meets the limit.
 pub(crate) fn levels_within(limit: Option<usize>) -> usize
     ensures { result ≡ levels_in limit }
 {

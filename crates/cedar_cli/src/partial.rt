@@ -36,7 +36,8 @@ use std::rc::RcStr;
 /// is, or all this as one JSON value. A step takes values for unknowns, and perhaps another store; beside these each
 /// entity that a store lacked is itself. A step that names no unknown and brings no entities is not taken. The status
 /// is that of the last decision, 4 where that is not known. The errors of policies are told as warnings, and so is what
-/// does not show in the answer; as JSON the errors stand in the value. The functions are the standard ones and `unknown`.
+/// does not show in the answer; as JSON the errors stand in the value. The functions are the standard ones and
+/// `unknown`.
 pub fn partially_authorize(
     alloc: Global,
     policies: Source<'_>,

@@ -1,5 +1,6 @@
 //! Steps: a partial answer, taken further by values for unknowns and perhaps another store.
-ghost use Rattle.std.specs.Prelude.{◌≡◌, ◌++◌, ◌∷◌, [], true, false, List, Ok, Some, IfOk, IfErr, IfSome, OnOk, is_some, map};
+ghost use Rattle.std.specs.Prelude.{◌≡◌, ◌++◌, ◌∷◌, [], true, false, List, Ok, Some};
+ghost use Rattle.std.specs.Prelude.{IfOk, IfErr, IfSome, OnOk, is_some, map};
 ghost use Rattle.std.specs.Rc.{rc_str_bytes};
 ghost use Rattle.cedar_model.specs.Chains.{has_limit, is_limit};
 ghost use Rattle.cedar_model.specs.Failures.{failure_kind};
@@ -85,8 +86,10 @@ fn put_input<'t>(
     inputs: &mut Vec<StepInput<'t>>,
     warnings: &mut String,
 ) -> Result<(), Refusal>
-    ensures put { (ss : List _) → AreInputs (extensions_view extensions.now) (calls_of extensions.now) ss inputs.old.items
-        → OnOk result (AreInputs (extensions_view extensions.now) (calls_of extensions.now) (ss ++ step.now ∷ []) inputs.new.items) }
+    ensures put { (ss : List _)
+        → AreInputs (extensions_view extensions.now) (calls_of extensions.now) ss inputs.old.items
+        → OnOk result (AreInputs (extensions_view extensions.now) (calls_of extensions.now) (ss ++ step.now ∷ [])
+        inputs.new.items) }
 {
     let number = inputs.len().saturating_add(1);
     let input = step_input(alloc, number, *step, extensions, warnings)?;

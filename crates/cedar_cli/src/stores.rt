@@ -76,8 +76,8 @@ fn no_entities(alloc: Global, is_partial: bool) -> Result<Store, Refusal>
 }
 
 /// The store of the entities that this text writes, each with all its ancestors. Where there may be more entities,
-/// those are left out whose parents lead to one that is not there, and that is told. Refused before they are closed, where
-/// they have more ancestors in all than they may.
+/// those are left out whose parents lead to one that is not there, and that is told. Refused before they are closed,
+/// where they have more ancestors in all than they may.
 pub(crate) fn store_of(
     alloc: Global,
     given: Given<'_>,
