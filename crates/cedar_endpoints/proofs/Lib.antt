@@ -1,0 +1,6 @@
+mod Views
+mod Fields
+mod Given
+mod Unread
+mod Texts
+mod Due

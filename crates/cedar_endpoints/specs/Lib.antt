@@ -1,0 +1,6 @@
+pub mod Routes
+pub mod Answers
+pub mod Asked
+pub mod Replies
+pub mod Documents
+pub mod Served

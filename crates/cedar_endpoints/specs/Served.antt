@@ -1,0 +1,84 @@
+-- What a service answers to requests over HTTP, whatever decides behind it.
+use Rattle.std.specs.Prelude.{List, ℕ, Option, Some, None, Err, Ok, codes, string_bytes}
+use Rattle.std.specs.Str.{IsUtf8}
+use Rattle.json.specs.Json.{Json}
+use Rattle.http.specs.declared.request.Request.{Request}
+use Rattle.http.specs.Request.{head_of, body_of}
+use Rattle.http_uri.specs.Uri.{uri_path}
+use Rattle.http_header.specs.HeaderMap.{get}
+use Rattle.http_header.specs.FieldValue.{FieldValue}
+use Rattle.http_server.specs.declared.response.Response.{Response}
+use Rattle.cedar_endpoints.specs.declared.answers.Status.TheVariants as statuses
+use Rattle.cedar_endpoints.specs.declared.replies.Outcome.{Outcome}
+use Rattle.cedar_endpoints.specs.declared.replies.Outcome.TheVariants as outcomes
+use Rattle.cedar_endpoints.specs.declared.replies.Reply.{Reply}
+use Rattle.cedar_endpoints.specs.declared.routes.Route.{Route}
+use Rattle.cedar_endpoints.specs.declared.routes.Route.TheVariants as routes
+use Rattle.cedar_endpoints.specs.Answers.{IsSent}
+use Rattle.cedar_endpoints.specs.Asked.{Text, Said, Evaluation, evaluation_said}
+use Rattle.cedar_endpoints.specs.Documents.{IsRepliedTo, whole}
+use Rattle.cedar_endpoints.specs.Replies.{Replies, IsFault, IsOutcome, error_text}
+use Rattle.cedar_endpoints.specs.Routes.{route_of}
+
+-- which outcomes there are for what is asked
+abbrev pub Decides : Type 0 → Type 1
+Decides Question = Question → Outcome → Type 0
+
+-- ---- AuthZEN's evaluation
+
+-- what is decided for what is said; or 400 for what is wrong
+abbrev pub IsDecided : Decides Evaluation → Said Evaluation → Reply → Type 0
+IsDecided decides (Err f) r = IsFault statuses.BadRequest f r
+IsDecided decides (Ok q) r = (o : Outcome) × decides q o × IsOutcome o r
+
+-- the document's evaluation is decided, if it says one
+abbrev pub IsEvaluated : Decides Evaluation → Json → Reply → Type 0
+IsEvaluated decides j r = IsDecided decides (evaluation_said j) r
+
+-- ---- Cedar's own request
+
+-- a response with 200, as it is; or why there is none with 400
+abbrev pub IsResponded : Outcome → Reply → Type 0
+IsResponded (outcomes.Decided b context) = Replies statuses.Ok (string_bytes context)
+IsResponded (outcomes.Refused error) = Replies statuses.BadRequest (error_text (string_bytes error))
+
+-- what is replied to a body: the response to the text that it is, or 400 since it is none
+pub data IsAuthorized (authorizes : Decides Text) (body : Text) (r : Reply) : Type 0 where
+  no_text : ¬ IsUtf8 body → IsFault statuses.BadRequest (whole (codes "not UTF-8")) r → IsAuthorized authorizes body r
+  of_text : {o : Outcome} → authorizes body o → IsResponded o r → IsAuthorized authorizes body r
+
+-- ---- the endpoints
+
+-- where the endpoints are, if that was said
+abbrev pub IsMetadata : Option Text → Reply → Type 0
+IsMetadata None = IsFault statuses.NotFound (whole (codes "nothing is here"))
+IsMetadata (Some text) = Replies statuses.Ok text
+
+abbrev pub IsReply : Decides Evaluation → Decides Text → Option Text → Route → Text → Reply → Type 0
+IsReply decides authorizes metadata routes.Evaluation body r = IsRepliedTo (IsEvaluated decides) body r
+IsReply decides authorizes metadata routes.Authorize body r = IsAuthorized authorizes body r
+IsReply decides authorizes metadata routes.Health body r = Replies statuses.Ok (codes "{\"status\":\"ok\"}") r
+IsReply decides authorizes metadata routes.Metadata body r = IsMetadata metadata r
+IsReply decides authorizes metadata routes.PostOnly body r =
+    IsFault statuses.PostOnly (whole (codes "there is POST alone")) r
+IsReply decides authorizes metadata routes.GetOnly body r =
+    IsFault statuses.GetOnly (whole (codes "there are GET and HEAD alone")) r
+IsReply decides authorizes metadata routes.Unknown body r =
+    IsFault statuses.NotFound (whole (codes "nothing is here")) r
+
+-- ---- over HTTP
+
+-- which endpoint a request names
+abbrev pub asked_route : Request (List ℕ) → Route
+asked_route q = route_of (head_of q).method (uri_path (head_of q).uri)
+
+-- the id that a request brings
+abbrev pub request_id : Request (List ℕ) → Option FieldValue
+request_id q = get (head_of q).headers (codes "x-request-id")
+
+-- the response is the reply that is due, whole, and no other
+pub record IsServed (decides : Decides Evaluation) (authorizes : Decides Text) (metadata : Option Text)
+    (q : Request (List ℕ)) (p : Response) : Type 0 where
+  pub reply : Reply
+  pub is_due : IsReply decides authorizes metadata (asked_route q) (body_of q) reply
+  pub sent : IsSent reply.status (request_id q) (string_bytes reply.body) p

@@ -1,0 +1,30 @@
+//! What HTTP asks of a service that decides, without Cedar: which endpoint a request names, what an AuthZEN document
+//! asks by the names in it, and how an answer is put into a response.
+//!
+//! - `routes`: which endpoint a method and a path name.
+//! - `asked`: what a document of AuthZEN's evaluation asks: who, what is to be done, with what, in which context; or
+//!   the first thing that is wrong with it, and where.
+//! - `decider`: what decides, as a trait. `service`: the service over HTTP that asks it.
+//! - `documents`: bodies as JSON. `replies`: the JSON texts that are replied. `answers`: the status, the header fields and
+//!   the body that are sent.
+//!
+//! The promise: a route is the one that `specs/Routes` says; a document asks what `specs/Asked` says of its JSON, or is
+//! refused for that reason; a response has the status, the fields and the body of `specs/Answers`, no other field and no
+//! other byte. Of the service (`Decisions`): each request is answered by what is due to it alone (`specs/Served`), with
+//! 200 and a decision only where the decider decides so, and nothing changes from one request to the next.
+#![tactic(auto)]
+
+mod answers;
+mod asked;
+mod decider;
+mod documents;
+mod replies;
+mod routes;
+mod service;
+
+pub use answers::{Status, send};
+pub use asked::{Evaluation, Fault, Keys, Named, read_evaluation};
+pub use decider::Decider;
+pub use replies::{Outcome, Reply, fault_json};
+pub use routes::{Route, route_of};
+pub use service::Decisions;

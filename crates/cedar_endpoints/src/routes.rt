@@ -1,0 +1,59 @@
+//! Endpoints.
+ghost use Rattle.std.specs.Prelude.{◌≡◌};
+ghost use Rattle.cedar_endpoints.specs.Routes.{route_of, posted, shown};
+
+/// What a request asks for, by its method and its path.
+#[derive(Clone, Copy, Debug, PartialEq, Eq)]
+pub enum Route {
+    /// A decision, as AuthZEN asks for it.
+    Evaluation,
+    /// A decision, as Cedar's JSON asks for it.
+    Authorize,
+    /// Whether the service answers.
+    Health,
+    /// Where AuthZEN's endpoints are.
+    Metadata,
+    /// What is there for `POST` alone, with another method.
+    PostOnly,
+    /// What is there for `GET` and `HEAD` alone, with another method.
+    GetOnly,
+    /// What is not there.
+    Unknown,
+}
+
+/// What a request of this method and this path, which has no query, asks for.
+pub fn route_of(method: &str, path: &str) -> Route
+    ensures { result ≡ route_of method.now path.now }
+{
+    if path == "/access/v1/evaluation" {
+        posted(Route::Evaluation, method)
+    } else if path == "/v1/authorize" {
+        posted(Route::Authorize, method)
+    } else if path == "/healthz" {
+        shown(Route::Health, method)
+    } else if path == "/.well-known/authzen-configuration" {
+        shown(Route::Metadata, method)
+    } else {
+        Route::Unknown
+    }
+}
+
+fn posted(route: Route, method: &str) -> Route
+    ensures { result ≡ posted route method.now }
+{
+    if method == "POST" {
+        route
+    } else {
+        Route::PostOnly
+    }
+}
+
+fn shown(route: Route, method: &str) -> Route
+    ensures { result ≡ shown route method.now }
+{
+    if method == "GET" || method == "HEAD" {
+        route
+    } else {
+        Route::GetOnly
+    }
+}

@@ -1,0 +1,189 @@
+#![tactic(auto, using(crate::proofs::Texts::texts))]
+//! The service.
+ghost use Rattle.std.specs.Prelude.{◌≡◌, Ok, IfOk, OnOk, option_map, string_bytes};
+ghost use Rattle.http_server.specs.Response.{IsBlank};
+ghost use Rattle.cedar_endpoints.specs.Asked.{evaluation_view, fault_view};
+ghost use Rattle.json.specs.Value.{value_view};
+ghost use Rattle.cedar_endpoints.specs.Documents.{IsRepliedTo, IsReplyUnread, whole};
+ghost use Rattle.cedar_endpoints.specs.Served.{IsDecided, IsEvaluated, IsAuthorized, IsResponded, IsMetadata, IsReply, IsServed};
+
+use crate::answers::{Status, send};
+use crate::asked::{Evaluation, Fault, read_evaluation};
+use crate::decider::Decider;
+use crate::documents::{Unread, parse_json};
+use crate::replies::{Outcome, Reply, faulty, plain, refused, reply_of};
+use crate::routes::{Route, route_of};
+use bytes::Bytes;
+use http::Request;
+use http_server::{Response, Service};
+use json::{Scratch, Value};
+use std::alloc::{AllocError, Global};
+
+/// A service that asks one decider.
+#[derive(Drop)]
+pub struct Decisions<D: Decider> {
+    pub alloc: Global,
+    pub decider: D,
+    /// AuthZEN's metadata, as JSON; where there are none, that endpoint is not there.
+    pub metadata: Option<String>,
+}
+
+/// Each request is answered by what is due to it alone, and the service stays as it is.
+impl<D: Decider> Service for Decisions<D> {
+    ghost answers = { λ before request response after. (after ≡ before)
+        × IsServed (D.decides before.decider) (D.authorizes before.decider)
+        (option_map string_bytes before.metadata) request response };
+
+    fn call(
+        &mut self,
+        request: &Request<Bytes>,
+        response: &mut Response,
+    ) -> Result<(), AllocError> {
+        respond(self, request, response)
+    }
+}
+
+fn respond<D: Decider>(
+    service: &Decisions<D>,
+    request: &Request<Bytes>,
+    response: &mut Response,
+) -> Result<(), AllocError>
+    requires { IsBlank response.old }
+    ensures { OnOk result (IsServed (D.decides service.now.decider) (D.authorizes service.now.decider)
+        (option_map string_bytes service.now.metadata) request.now response.new) }
+{
+    let route = route_of(request.method().as_str(), request.uri().path());
+    let reply = reply(service, route, request.body().as_slice())?;
+    let id = request.headers().get("x-request-id");
+    send(reply.status, id, reply.body.as_str(), response)
+}
+
+fn reply<D: Decider>(service: &Decisions<D>, route: Route, body: &[u8]) -> Result<Reply, AllocError>
+    ensures { IfOk result (IsReply (D.decides service.now.decider) (D.authorizes service.now.decider)
+        (option_map string_bytes service.now.metadata) route body.now) }
+{
+    let alloc = service.alloc;
+    match route {
+        Route::Evaluation => evaluate(alloc, &service.decider, body),
+        Route::Authorize => authorize(alloc, &service.decider, body),
+        Route::Health => plain(alloc, "{\"status\":\"ok\"}"),
+        Route::Metadata => metadata(alloc, &service.metadata),
+        Route::PostOnly => faulty(alloc, Status::PostOnly, whole("there is POST alone")),
+        Route::GetOnly => faulty(
+            alloc,
+            Status::GetOnly,
+            whole("there are GET and HEAD alone"),
+        ),
+        Route::Unknown => faulty(alloc, Status::NotFound, whole("nothing is here")),
+    }
+}
+
+fn whole(reason: &'static str) -> Fault
+    ensures { fault_view result ≡ whole reason.now }
+{
+    Fault {
+        part: "",
+        member: "",
+        reason,
+    }
+}
+
+fn metadata(alloc: Global, metadata: &Option<String>) -> Result<Reply, AllocError>
+    ensures { IfOk result (IsMetadata (option_map string_bytes metadata.now)) }
+{
+    match metadata {
+        Some(text) => plain(alloc, text.as_str()),
+        None => faulty(alloc, Status::NotFound, whole("nothing is here")),
+    }
+}
+
+// ---- AuthZEN's evaluation
+
+fn evaluate<D: Decider>(alloc: Global, decider: &D, body: &[u8]) -> Result<Reply, AllocError>
+    ensures { IfOk result (IsRepliedTo (IsEvaluated (D.decides decider.now)) body.now) }
+{
+    match str::from_utf8(body) {
+        Ok(text) => evaluate_text(alloc, decider, text),
+        Err(_) => faulty(alloc, Status::BadRequest, whole("not UTF-8")),
+    }
+}
+
+fn evaluate_text<D: Decider>(alloc: Global, decider: &D, text: &str) -> Result<Reply, AllocError>
+    ensures { IfOk result (IsRepliedTo (IsEvaluated (D.decides decider.now)) text.now) }
+{
+    let mut scratch = Scratch::new(alloc);
+    match parse_json(alloc, text, &mut scratch) {
+        Ok(value) => evaluate_value(alloc, decider, &value),
+        Err(unread) => reply_unread(alloc, unread),
+    }
+}
+
+fn reply_unread(alloc: Global, unread: Unread) -> Result<Reply, AllocError>
+    ensures { IfOk result (IsReplyUnread unread) }
+{
+    match unread {
+        Unread::Syntax => faulty(alloc, Status::BadRequest, whole("not JSON")),
+        Unread::DuplicateKey => {
+            faulty(
+                alloc,
+                Status::BadRequest,
+                whole("a key comes twice in an object"),
+            )
+        }
+        Unread::Memory => Err(AllocError),
+    }
+}
+
+fn evaluate_value<D: Decider>(
+    alloc: Global,
+    decider: &D,
+    value: &Value<'_>,
+) -> Result<Reply, AllocError>
+    ensures { IfOk result (IsEvaluated (D.decides decider.now) (value_view value.now)) }
+{
+    match read_evaluation(value) {
+        Ok(asked) => decide(alloc, decider, &asked),
+        Err(fault) => faulty(alloc, Status::BadRequest, fault),
+    }
+}
+
+fn decide<D: Decider>(
+    alloc: Global,
+    decider: &D,
+    asked: &Evaluation<'_, '_>,
+) -> Result<Reply, AllocError>
+    ensures { IfOk result (IsDecided (D.decides decider.now) (Ok (evaluation_view asked.now))) }
+{
+    let outcome = decider.decide(alloc, asked)?;
+    reply_of(alloc, &outcome)
+}
+
+// ---- Cedar's own request
+
+fn authorize<D: Decider>(alloc: Global, decider: &D, body: &[u8]) -> Result<Reply, AllocError>
+    ensures { IfOk result (IsAuthorized (D.authorizes decider.now) body.now) }
+{
+    match str::from_utf8(body) {
+        Ok(text) => authorize_text(alloc, decider, text),
+        Err(_) => faulty(alloc, Status::BadRequest, whole("not UTF-8")),
+    }
+}
+
+fn authorize_text<D: Decider>(alloc: Global, decider: &D, text: &str) -> Result<Reply, AllocError>
+    ensures { IfOk result (IsAuthorized (D.authorizes decider.now) text.now) }
+{
+    let outcome = decider.authorize(alloc, text)?;
+    respond_with(alloc, &outcome)
+}
+
+fn respond_with(alloc: Global, outcome: &Outcome) -> Result<Reply, AllocError>
+    ensures { IfOk result (IsResponded outcome.now) }
+{
+    match outcome {
+        Outcome::Decided {
+            is_allowed: _,
+            context,
+        } => plain(alloc, context.as_str()),
+        Outcome::Refused { error } => refused(alloc, Status::BadRequest, error.as_str()),
+    }
+}

@@ -1,0 +1,5 @@
+pub mod Standings
+pub mod Walks
+pub mod Worlds
+pub mod Whole
+pub mod Answered

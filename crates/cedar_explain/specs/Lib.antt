@@ -1,0 +1,5 @@
+pub mod Outcomes
+pub mod Places
+pub mod Explained
+pub mod Views
+pub mod Reached

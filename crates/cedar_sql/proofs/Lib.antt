@@ -1,0 +1,6 @@
+pub mod Cells
+pub mod Filling
+pub mod Holders
+pub mod Truths
+pub mod Values
+pub mod Whole

@@ -1,0 +1,6 @@
+pub mod Columns
+pub mod Filled
+pub mod Meaning
+pub mod Said
+pub mod Sides
+pub mod Terms
