@@ -1,0 +1,4 @@
+pub mod Planned
+pub mod Entries
+pub mod Told
+pub mod Worlds
