@@ -24,9 +24,9 @@ pub enum Status {
     GetOnly,
 }
 
-/// Puts the status, the body, which is JSON, and the request's id, where it has one, into a response. Refuses only if out
-/// of memory.
-pub fn send(
+// Puts the status, the body, which is JSON, and the request's id, where it has one, into a response that has nothing yet.
+// Refuses only if out of memory.
+pub(crate) fn send(
     status: Status,
     id: Option<&HeaderValue>,
     body: &str,

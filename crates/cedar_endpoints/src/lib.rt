@@ -5,13 +5,13 @@
 //! - `asked`: what a document of AuthZEN's evaluation asks: who, what is to be done, with what, in which context; or
 //!   the first thing that is wrong with it, and where.
 //! - `decider`: what decides, as a trait. `service`: the service over HTTP that asks it.
-//! - `documents`: bodies as JSON. `replies`: the JSON texts that are replied. `answers`: the status, the header fields and
-//!   the body that are sent.
+//! - `documents`: bodies as JSON. `replies`: the JSON texts that are replied. `answers`: the status, the header fields
+//!   and the body that are sent.
 //!
 //! The promise: a route is the one that `specs/Routes` says; a document asks what `specs/Asked` says of its JSON, or is
-//! refused for that reason; a response has the status, the fields and the body of `specs/Answers`, no other field and no
-//! other byte. Of the service (`Decisions`): each request is answered by what is due to it alone (`specs/Served`), with
-//! 200 and a decision only where the decider decides so, and nothing changes from one request to the next.
+//! refused for that reason. Of the service (`Decisions`): each request is answered by what is due to it alone
+//! (`specs/Served`), with 200 and a decision only where the decider decides so, and nothing changes from one request to
+//! the next; a response has the status, the fields and the body of `specs/Answers`, no other field and no other byte.
 #![tactic(auto)]
 
 mod answers;
@@ -22,7 +22,7 @@ mod replies;
 mod routes;
 mod service;
 
-pub use answers::{Status, send};
+pub use answers::Status;
 pub use asked::{Evaluation, Fault, Keys, Named, read_evaluation};
 pub use decider::Decider;
 pub use replies::{Outcome, Reply, fault_json};

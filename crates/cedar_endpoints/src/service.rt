@@ -5,7 +5,8 @@ ghost use Rattle.http_server.specs.Response.{IsBlank};
 ghost use Rattle.cedar_endpoints.specs.Asked.{evaluation_view, fault_view};
 ghost use Rattle.json.specs.Value.{value_view};
 ghost use Rattle.cedar_endpoints.specs.Documents.{IsRepliedTo, IsReplyUnread, whole};
-ghost use Rattle.cedar_endpoints.specs.Served.{IsDecided, IsEvaluated, IsAuthorized, IsResponded, IsMetadata, IsReply, IsServed};
+ghost use Rattle.cedar_endpoints.specs.Served.{IsDecided, IsEvaluated, IsAuthorized, IsResponded, IsMetadata};
+ghost use Rattle.cedar_endpoints.specs.Served.{IsReply, IsServed};
 
 use crate::answers::{Status, send};
 use crate::asked::{Evaluation, Fault, read_evaluation};
