@@ -3,10 +3,13 @@ mod Alone
 mod Composed
 mod Known
 mod Exact
+mod Lines
+mod Naming
 mod Words
 mod Reasoned
 mod Counting
 mod Valued
 mod Opening
 mod Stepping
+mod Halting
 mod Staged

@@ -1,5 +1,5 @@
 -- Stages of a partial answer, and what is printed of them.
-use Rattle.std.proofs.Common.{◌≡◌, refl, sym, ap, subst, ◌∙◌, List, [], ◌∷◌, ◌++◌, map, codes, string_bytes, Option, option_map, Result, Ok, Err, IfOk, length, nat_eq, true, false, true≢false, eqb-true}
+use Rattle.std.proofs.Common.{◌≡◌, refl, sym, ap, subst, ◌∙◌, List, [], ◌∷◌, ◌++◌, map, codes, string_bytes, Option, Some, None, option_map, Result, Ok, Err, IfOk, length, nat_eq, true, false, true≢false, eqb-true}
 use Rattle.std.proofs.lemmas.List.{nil_from_length}
 use Rattle.std.specs.declared.alloc.AllocError.{AllocError}
 use Rattle.json.specs.Json.{Json, array}
@@ -14,6 +14,7 @@ use Rattle.cedar_decisions.specs.Decisions.{decision_view}
 use Rattle.cedar_decisions.specs.declared.decision.Decision.{Decision}
 use Rattle.cedar_layers.specs.declared.policies.entities.Entities.{Entities}
 use Rattle.cedar_layers.specs.declared.policies.policy_set.PolicySet.{PolicySet}
+use Rattle.cedar_layers.specs.Policies.{PolicyView}
 use Rattle.cedar_layers.specs.PolicySets.{policies_view}
 use Rattle.cedar_layers.specs.Stores.{store_view}
 use Rattle.cedar_requests.specs.Requests.{request_view}
@@ -114,69 +115,73 @@ module _ (above : Text) (r : PartialResponse) (d : Option Decision) (is : option
 
 -- ---- documents
 
-pub in_document : (first : PartialResponse) (later : List Taken) (r : PartialResponse) → r ≡ last_in first later
-    → (d : Option Decision) → option_map decision_view d ≡ decision_in r → (j : Json) → AreDocumented first later j
-    → (o : Result Printed AllocError) → IfOk o (λ p. p.status ≡ partial_status (option_map decision_view d))
-    → IfOk o (λ p. string_bytes p.output ≡ print (json_tokens j) ++ codes "\n")
-    → IfOk o (AreInDocument first later)
-in_document first later r last d is j says (Ok p) status output = record {
-  document = j;
-  says = says;
-  status_is = status ∙ ap partial_status (is ∙ ap decision_in last);
-  output_is = output;
-}
-in_document first later r last d is j says (Err e) status output = tt
+module _ (text : Text) (ps : List PolicyView) where
+  pub in_document : (first : PartialResponse) (later : List Taken) (r : PartialResponse) → r ≡ last_in first later
+      → (d : Option Decision) → option_map decision_view d ≡ decision_in r → (j : Json)
+      → AreDocumented text ps first later j → (o : Result Printed AllocError)
+      → IfOk o (λ p. p.status ≡ partial_status (option_map decision_view d))
+      → IfOk o (λ p. string_bytes p.output ≡ print (json_tokens j) ++ codes "\n")
+      → IfOk o (AreInDocument text ps first later)
+  in_document first later r last d is j says (Ok p) status output = record {
+    document = j;
+    says = says;
+    status_is = status ∙ ap partial_status (is ∙ ap decision_in last);
+    output_is = output;
+  }
+  in_document first later r last d is j says (Err e) status output = tt
 
-pub record AreDocumentsSoFar (first : PartialResponse) (all : List Taken) (left : List Taken) (now : PartialResponse)
-    (js : List Json) : Type 0 where
-  pub done : List Taken
-  pub documents : AreDocuments first done js
-  pub last_is : now ≡ last_in first done
-  pub all_are : done ++ left ≡ all
+  pub record AreDocumentsSoFar (first : PartialResponse) (all : List Taken) (left : List Taken) (now : PartialResponse)
+      (js : List Json) : Type 0 where
+    pub done : List Taken
+    pub documents : AreDocuments text ps first done js
+    pub last_is : now ≡ last_in first done
+    pub all_are : done ++ left ≡ all
 
-module _ (first : PartialResponse) (all : List Taken) where
-  pub no_documents_yet : (left : List Taken) (now : PartialResponse) (js : List Json) → left ≡ all → now ≡ first
-      → AreDocuments first [] js → AreDocumentsSoFar first all left now js
-  no_documents_yet left now js all_left is one = record {
-    done = [];
-    documents = one;
-    last_is = is;
-    all_are = all_left;
+  module _ (first : PartialResponse) (all : List Taken) where
+    pub no_documents_yet : (left : List Taken) (now : PartialResponse) (js : List Json) → left ≡ all → now ≡ first
+        → AreDocuments text ps first [] js → AreDocumentsSoFar first all left now js
+    no_documents_yet left now js all_left is one = record {
+      done = [];
+      documents = one;
+      last_is = is;
+      all_are = all_left;
+    }
+
+    pub document_more : (t : Taken) (left rest : List Taken) (now then : PartialResponse) (before after : List Json)
+        → left ≡ t ∷ rest → AreDocumentsSoFar first all left now before → then ≡ response_or t.response now
+        → AddsDocument text ps t.step then before after → AreDocumentsSoFar first all rest then after
+    document_more t left rest now then before after left_is so_far then_is adds =
+        let last_is : then ≡ last_in first (so_far.done ++ t ∷ []) =
+        then_is ∙ ap (response_or t.response) so_far.last_is ∙ sym (last_after first so_far.done t t.response refl) in
+        record {
+          done = so_far.done ++ t ∷ [];
+          documents = subst (AreDocuments text ps first (so_far.done ++ t ∷ [])) (sym adds.2)
+              (document_behind so_far.documents t adds.0
+              (subst (λ r. IsStageDocument text ps (Some t.step) r adds.0) last_is adds.1));
+          last_is = last_is;
+          all_are = assoc_one so_far.done t rest ∙ ap (λ l. so_far.done ++ l) (sym left_is) ∙ so_far.all_are;
+        }
+
+    pub documents_of_all : (left : List Taken) (now : PartialResponse) (js : List Json) → left ≡ []
+        → AreDocumentsSoFar first all left now js → AreDocuments text ps first all js
+    documents_of_all left now js none so_far =
+        subst (λ l. AreDocuments text ps first l js)
+        (sym (append_none so_far.done) ∙ ap (λ l. so_far.done ++ l) (sym none) ∙ so_far.all_are) so_far.documents
+
+  -- of no step the one alone, of more an array
+  pub documented_alone : (first : PartialResponse) (later : List Taken) (j : Json) → later ≡ []
+      → IsStageDocument text ps None first j → AreDocumented text ps first later j
+  documented_alone first later j none is = record {
+    documents = j ∷ [];
+    are = subst (λ l. AreDocuments text ps first l (j ∷ [])) (sym none) (one_document is);
+    is_of = subst (λ l. IsOfDocuments l (j ∷ []) j) (sym none) refl;
   }
 
-  pub document_more : (t : Taken) (left rest : List Taken) (now then : PartialResponse) (before after : List Json)
-      → left ≡ t ∷ rest → AreDocumentsSoFar first all left now before → then ≡ response_or t.response now
-      → AddsDocument then before after → AreDocumentsSoFar first all rest then after
-  document_more t left rest now then before after left_is so_far then_is adds =
-      let last_is : then ≡ last_in first (so_far.done ++ t ∷ []) =
-      then_is ∙ ap (response_or t.response) so_far.last_is ∙ sym (last_after first so_far.done t t.response refl) in
-      record {
-        done = so_far.done ++ t ∷ [];
-        documents = subst (AreDocuments first (so_far.done ++ t ∷ [])) (sym adds.2)
-            (document_behind so_far.documents t adds.0 (subst (λ r. IsStageDocument r adds.0) last_is adds.1));
-        last_is = last_is;
-        all_are = assoc_one so_far.done t rest ∙ ap (λ l. so_far.done ++ l) (sym left_is) ∙ so_far.all_are;
-      }
-
-  pub documents_of_all : (left : List Taken) (now : PartialResponse) (js : List Json) → left ≡ []
-      → AreDocumentsSoFar first all left now js → AreDocuments first all js
-  documents_of_all left now js none so_far =
-      subst (λ l. AreDocuments first l js)
-      (sym (append_none so_far.done) ∙ ap (λ l. so_far.done ++ l) (sym none) ∙ so_far.all_are) so_far.documents
-
--- of no step the one alone, of more an array
-pub documented_alone : (first : PartialResponse) (later : List Taken) (j : Json) → later ≡ [] → IsStageDocument first j
-    → AreDocumented first later j
-documented_alone first later j none is = record {
-  documents = j ∷ [];
-  are = subst (λ l. AreDocuments first l (j ∷ [])) (sym none) (one_document is);
-  is_of = subst (λ l. IsOfDocuments l (j ∷ []) j) (sym none) refl;
-}
-
-pub documented_in_order : (first : PartialResponse) (later : List Taken) (js : List Json) (j : Json)
-    → AreDocuments first later js → ¬ (later ≡ []) → j ≡ array (items_of js) → AreDocumented first later j
-documented_in_order first [] js j are some is = absurd (some refl)
-documented_in_order first (t ∷ ts) js j are some is = record { documents = js; are = are; is_of = is }
+  pub documented_in_order : (first : PartialResponse) (later : List Taken) (js : List Json) (j : Json)
+      → AreDocuments text ps first later js → ¬ (later ≡ []) → j ≡ array (items_of js)
+      → AreDocumented text ps first later j
+  documented_in_order first [] js j are some is = absurd (some refl)
+  documented_in_order first (t ∷ ts) js j are some is = record { documents = js; are = are; is_of = is }
 
 -- whether a list has no element
 pub is_none : (ts : List Taken) → nat_eq (length ts) 0 ≡ true → ts ≡ []
@@ -197,3 +202,14 @@ module _ (step known behind more all : List (Text × Json)) (e n : Text × Json)
   members_in_order is_known is_more is_all =
       is_all ∙ ap (λ l. l ++ n ∷ []) is_more ∙ ap (λ l. (l ++ e ∷ []) ++ n ∷ []) is_known
       ∙ assoc_one (step ++ known) e (n ∷ []) ∙ assoc step known (e ∷ n ∷ [])
+
+-- four members of an object that has none, one after another
+pub four_members : (d r e n : Text) (dj rj ej nj dk rk nk : Json) (none one two three four : List (Text × Json))
+    → none ≡ [] → one ≡ none ++ (d, dj) ∷ [] → two ≡ one ++ (r, rj) ∷ [] → three ≡ two ++ (e, ej) ∷ []
+    → four ≡ three ++ (n, nj) ∷ [] → dj ≡ dk → rj ≡ rk → nj ≡ nk
+    → four ≡ (d, dk) ∷ (r, rk) ∷ (e, ej) ∷ (n, nk) ∷ []
+four_members d r e n dj rj ej nj dk rk nk none one two three four is_none is_one is_two is_three is_four is_d is_r is_n =
+    is_four ∙ ap (λ l. l ++ (n, nj) ∷ []) is_three ∙ ap (λ l. (l ++ (e, ej) ∷ []) ++ (n, nj) ∷ []) is_two
+    ∙ ap (λ l. ((l ++ (r, rj) ∷ []) ++ (e, ej) ∷ []) ++ (n, nj) ∷ []) is_one
+    ∙ ap (λ l. (((l ++ (d, dj) ∷ []) ++ (r, rj) ∷ []) ++ (e, ej) ∷ []) ++ (n, nj) ∷ []) is_none
+    ∙ (λ i. (d, is_d i) ∷ (r, is_r i) ∷ (e, ej) ∷ (n, is_n i) ∷ [])

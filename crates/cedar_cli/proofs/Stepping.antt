@@ -160,7 +160,7 @@ module _ (X : world.Extensions) (calls : StoredCalls) where
 
   -- ---- stores
 
-  own_store : (o : Option Source) (is_partial : Bool) (own : Option Store) (before : Store)
+  pub own_store : (o : Option Source) (is_partial : Bool) (own : Option Store) (before : Store)
       → IsOwnStore X calls o is_partial own
       → IsStoreAfterOr X calls o is_partial before.entities (store_or own before).entities
   own_store None is_partial None before h = refl

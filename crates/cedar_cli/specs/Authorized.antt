@@ -1,5 +1,6 @@
 -- What is decided of texts, and what is printed of it.
-use Rattle.std.specs.Prelude.{◌≡◌, ◌↔◌, ◌++◌, ⊤, ℕ, Bool, true, false, [], Option, None, codes, string_bytes}
+use Rattle.std.specs.Prelude.{◌≡◌, ◌↔◌, ◌++◌, ◌==◌, ℕ, Bool, true, false, List, [], length, Option, None, codes}
+use Rattle.std.specs.Prelude.{string_bytes}
 use Rattle.std.specs.Option.{unwrap_or}
 use Rattle.json.specs.Json.{Json}
 use Rattle.json.specs.Print.{print}
@@ -8,6 +9,7 @@ use Rattle.cedar_model.specs.Terms.{Text}
 use Rattle.cedar_model.specs.Values.{AbstractValue}
 use Rattle.cedar_model.specs.World as world
 use Rattle.cedar_model.specs.Rules.{StoredCalls}
+use Rattle.cedar_model.specs.Policies as model
 use Rattle.cedar_model.specs.Policies.{ErrorHandling, allow, decision, counted_each}
 use Rattle.cedar_model.specs.Settings.{Setting, shallow}
 use Rattle.cedar_model.specs.Agreement.{HasNothingUnknown, own_world}
@@ -15,9 +17,10 @@ use Rattle.cedar_model.specs.Authorizations.{Authorized, IsExactResponse}
 use Rattle.cedar_model.specs.Chains.{at_step, no_values}
 use Rattle.cedar_model.specs.Configurations.{Configuration, configured}
 use Rattle.cedar_decisions.specs.Decisions.{decision_view, mode_view}
-use Rattle.cedar_decisions.specs.declared.decision.Decision.{Decision}
 use Rattle.cedar_layers.specs.declared.policies.entities.Entities.{Entities}
 use Rattle.cedar_layers.specs.declared.policies.policy_set.PolicySet.{PolicySet}
+use Rattle.cedar_layers.specs.Policies.{PolicyView}
+use Rattle.cedar_layers.specs.PolicySets.{policies_view}
 use Rattle.cedar_layers.specs.Stores.{store_view}
 use Rattle.cedar_requests.specs.declared.request.Request.{Request}
 use Rattle.cedar_requests.specs.Requests.{request_view}
@@ -25,13 +28,14 @@ use Rattle.cedar_text_parser.specs.PolicyReading.{AreAllRead}
 use Rattle.cedar_text_parser.specs.declared.policies.ParsedPolicies.{ParsedPolicies}
 use Rattle.cedar_standard_functions.specs.Standard.{standard_answers}
 use Rattle.cedar_authorizer.specs.declared.responses.response.Response.{Response}
-use Rattle.cedar_authorizer.specs.responses.Responses.{response_view}
+use Rattle.cedar_authorizer.specs.responses.Responses.{has_id, response_view}
 use Rattle.cedar_authorizer.specs.Responding.{considered, IsKnownResponse, MeetsNoLimit}
 use Rattle.cedar_authorizer.specs.Running.{IsConcreteRun}
 use Rattle.cedar_cli.specs.declared.asked.Asked.{Asked}
 use Rattle.cedar_cli.specs.declared.asked.Way.{Way}
 use Rattle.cedar_cli.specs.declared.decisions.Printed.{Printed}
-use Rattle.cedar_cli.specs.Printing.{status, word}
+use Rattle.cedar_cli.specs.Printing.{status, word, partial_word}
+use Rattle.cedar_cli.specs.Named.{AreNameLines}
 use Rattle.cedar_cli.specs.Documents.{IsResponseDocument}
 use Rattle.cedar_cli.specs.Questions.{levels, IsWholeRequest, IsGivenStore}
 use Rattle.cedar_cli.specs.Standard.{standard_extensions, standard_calls, standard_knowledge}
@@ -42,33 +46,50 @@ use Rattle.cedar_cli.specs.Standard.{standard_extensions, standard_calls, standa
 abbrev pub Begins : Text → Text → Type 0
 Begins first text = (rest : Text) × (text ≡ first ++ rest)
 
+-- it begins with the word of a decision, or of one that is not known
+abbrev pub BeginsWithWord : Text → Type 0
+BeginsWithWord text = (d : Option model.Decision) × Begins (partial_word d) text
+
+-- no line below the first one does
+abbrev pub HasNoWordBelow : Text → Type 0
+HasNoWordBelow text = (above below : Text) → text ≡ above ++ (codes "\n" ++ below) → ¬ BeginsWithWord below
+
+-- the policies that determined the decision, a line each, in the order of the set; or that there are none
+abbrev pub AreReasonLines : Bool → (Text → Bool) → List PolicyView → Text → Type 0
+AreReasonLines true is_reason ps lines = lines ≡ codes "\nnote: no policies applied to this request\n"
+AreReasonLines false is_reason ps lines =
+    (names : Text) × AreNameLines is_reason ps names
+    × (lines ≡ codes "\nnote: this decision was due to the following policies:\n" ++ names)
+
 -- these are no lines, unless they are asked for
-abbrev pub AreNoneUnless : Bool → Text → Type 0
-AreNoneUnless false lines = lines ≡ []
-AreNoneUnless true lines = ⊤
+abbrev pub AreReasonsIf : Bool → List PolicyView → Response → Text → Type 0
+AreReasonsIf false ps r lines = lines ≡ []
+AreReasonsIf true ps r lines =
+    AreReasonLines (length r.diagnostics.reason.keys == 0) (has_id r.diagnostics.reason) ps lines
 
--- the decision's word stands first, on a line of its own, and alone unless more is asked for; and the exit status is
--- the decision's
-pub record IsWord (is_verbose : Bool) (d : Decision) (p : Printed) : Type 0 where
+-- the decision's word stands first, on a line of its own, and alone unless more is asked for; no other line begins with
+-- such a word; and the exit status is the decision's
+pub record IsWord (is_verbose : Bool) (ps : List PolicyView) (r : Response) (p : Printed) : Type 0 where
   pub lines : Text
-  pub alone : AreNoneUnless is_verbose lines
-  pub status_is : p.status ≡ status (decision_view d)
-  pub output_is : string_bytes p.output ≡ word (decision_view d) ++ (codes "\n" ++ lines)
+  pub reasons : AreReasonsIf is_verbose ps r lines
+  pub status_is : p.status ≡ status (decision_view r.decision)
+  pub output_is : string_bytes p.output ≡ word (decision_view r.decision) ++ (codes "\n" ++ lines)
+  pub no_other : HasNoWordBelow (string_bytes p.output)
 
--- one JSON value, which says the decision, stands on a line, and the exit status is the decision's
-pub record IsDocument (d : Decision) (p : Printed) : Type 0 where
+-- one JSON value, which says the response, stands on a line, and the exit status is the decision's
+pub record IsDocument (text : Text) (ps : List PolicyView) (r : Response) (p : Printed) : Type 0 where
   pub document : Json
-  pub document_is : IsResponseDocument (decision_view d) document
-  pub status_is : p.status ≡ status (decision_view d)
+  pub document_is : IsResponseDocument text ps r document
+  pub status_is : p.status ≡ status (decision_view r.decision)
   pub output_is : string_bytes p.output ≡ print (json_tokens document) ++ codes "\n"
 
-abbrev pub IsPrintedAs : Bool → Bool → Decision → Printed → Type 0
-IsPrintedAs false is_verbose d p = IsWord is_verbose d p
-IsPrintedAs true is_verbose d p = IsDocument d p
+abbrev pub IsPrintedAs : Bool → Bool → Text → List PolicyView → Response → Printed → Type 0
+IsPrintedAs false is_verbose text ps r p = IsWord is_verbose ps r p
+IsPrintedAs true is_verbose text ps r p = IsDocument text ps r p
 
--- the decision is printed in this way, as JSON or not
-abbrev pub IsPrinted : Way → Decision → Printed → Type 0
-IsPrinted w d p = IsPrintedAs w.is_json w.is_verbose d p
+-- the response, of the policies of a text, is printed in this way, as JSON or not
+abbrev pub IsPrinted : Text → PolicySet → Way → Response → Printed → Type 0
+IsPrinted text ps w r p = IsPrintedAs w.is_json w.is_verbose text (policies_view ps) r p
 
 -- ---- what is decided
 
@@ -92,21 +113,22 @@ pub record IsResponseTo (X : world.Extensions) (calls : StoredCalls) (ps : Polic
   pub by_meaning : IsKnownResponse (configuration_of X calls w) (setting_of X r s) (considered ps) a
   pub within_limit : MeetsNoLimit (configuration_of X calls w) (setting_of X r s) (considered ps) a.errors
 
--- of these policies and this store: there is a request that is asked, and what is printed is the decision on it
-pub record IsAnsweredOver (X : world.Extensions) (calls : StoredCalls) (ps : PolicySet) (s : Entities) (q : Asked)
-    (w : Way) (p : Printed) : Type 0 where
+-- of these policies, of this text, and this store: there is a request that is asked, and what is printed is the
+-- response to it
+pub record IsAnsweredOver (X : world.Extensions) (calls : StoredCalls) (text : Text) (ps : PolicySet) (s : Entities)
+    (q : Asked) (w : Way) (p : Printed) : Type 0 where
   pub request : Request
   pub response : Response
   pub request_is : IsWholeRequest X calls q request
   pub response_is : IsResponseTo X calls ps s request w (response_view response)
-  pub printed : IsPrinted w response.decision p
+  pub printed : IsPrinted text ps w response p
 
 -- of these policies: there is the closed store that is given
-pub record IsAnsweredBy (X : world.Extensions) (calls : StoredCalls) (ps : PolicySet) (q : Asked) (w : Way)
-    (p : Printed) : Type 0 where
+pub record IsAnsweredBy (X : world.Extensions) (calls : StoredCalls) (text : Text) (ps : PolicySet) (q : Asked)
+    (w : Way) (p : Printed) : Type 0 where
   pub entities : Entities
   pub store_is : IsGivenStore X calls q entities
-  pub answered : IsAnsweredOver X calls ps entities q w p
+  pub answered : IsAnsweredOver X calls text ps entities q w p
 
 -- where nothing is unknown: decision, reasons and errors are exactly those that the policies have by what they mean
 abbrev pub IsExact : ErrorHandling → PolicySet → Entities → Request → Authorized → Type 0
@@ -139,7 +161,7 @@ pub record IsAuthorized (text : Text) (q : Asked) (w : Way) (p : Printed) : Type
       IsResponseTo standard_extensions standard_calls parsed.policies entities request w (response_view response)
   pub exact : w.limit ≡ None
       → IsExact (mode_view w.error_handling) parsed.policies entities request (response_view response)
-  -- and it is that decision that is printed: so, without JSON, `ALLOW` exactly where the policies allow
-  pub printed : IsPrinted w response.decision p
+  -- and it is that response that is printed: so, without JSON, `ALLOW` exactly where the policies allow
+  pub printed : IsPrinted text parsed.policies w response p
   pub allows : w.limit ≡ None → w.is_json ≡ false
       → IsAllowedExactly (mode_view w.error_handling) parsed.policies entities request (string_bytes p.output)

@@ -2,11 +2,13 @@ pub mod Noted
 pub mod Printing
 pub mod Standard
 pub mod Questions
+pub mod Visible
+pub mod Named
 pub mod Documents
 pub mod Authorized
 pub mod Steps
-pub mod Stages
-pub mod Inputs
 pub mod Reasons
-pub mod Visible
+pub mod Stages
+pub mod Stopped
+pub mod Inputs
 pub mod Evaluated

@@ -10,6 +10,7 @@ use Rattle.cedar_text_lexer.specs.declared.errors.ReadError.{ReadError}
 use Rattle.cedar_text_lexer.specs.declared.errors.ReadError.TheVariants as reading
 use Rattle.cedar_text_parser.specs.declared.errors.ParseError.{ParseError}
 use Rattle.cedar_text_parser.specs.declared.errors.ParseError.TheVariants as parsing
+use Rattle.cedar_text_formatter.specs.Formatted.{IsFormatted, IsUnreadable}
 use Rattle.cedar_text_parser.specs.Paths.{IsPathRefused}
 use Rattle.cedar_text_parser.specs.PolicyReading.{AreTold}
 use Rattle.cedar_layers.specs.declared.policies.entities.Entity.{Entity}
@@ -82,6 +83,16 @@ pub record ArePoliciesUnread (k : Knowledge) (text : Text) : Type 0 where
 pub record AreUnread (text : Text) : Type 0 where
   pub known : Knowledge
   pub unread : ArePoliciesUnread known text
+
+-- the text is no policies, or a token of it can't be read, so that it has no layout
+pub data HasNoLayout (text : Text) : Type 0 where
+  for_reading : AreUnread text → HasNoLayout text
+  for_tokens : IsUnreadable text → HasNoLayout text
+
+-- or it has another one
+pub data IsNotLaidOut (text : Text) : Type 0 where
+  for_layout : HasNoLayout text → IsNotLaidOut text
+  for_change : ¬ IsFormatted text text → IsNotLaidOut text
 
 -- ---- the parts of a question
 

@@ -2,7 +2,7 @@
 use Rattle.std.specs.Prelude.{◌≡◌, ◌++◌, ℕ, Bool, true, false, List, [], ◌∷◌, map}
 use Rattle.std.specs.Prelude.{Option, Some, None, Ok, codes, string_bytes}
 use Rattle.std.specs.Option.{unwrap_or}
-use Rattle.json.specs.Json.{Json, array, object}
+use Rattle.json.specs.Json.{Json, string, array}
 use Rattle.json.specs.Print.{print}
 use Rattle.json.specs.Value.{items_of}
 use Rattle.json.specs.Tree.{json_tokens}
@@ -19,12 +19,15 @@ use Rattle.cedar_decisions.specs.Decisions.{mode_view}
 use Rattle.cedar_functions.specs.Functions.{Knowledge}
 use Rattle.cedar_layers.specs.declared.policies.entities.Entities.{Entities}
 use Rattle.cedar_layers.specs.declared.policies.policy_set.PolicySet.{PolicySet}
+use Rattle.cedar_layers.specs.Policies.{PolicyView}
+use Rattle.cedar_layers.specs.PolicySets.{policies_view}
 use Rattle.cedar_layers.specs.Stores.{store_view}
 use Rattle.cedar_requests.specs.declared.context.Context.{Context}
 use Rattle.cedar_requests.specs.Requests.{request_view}
 use Rattle.cedar_text_parser.specs.PolicyReading.{AreAllRead}
 use Rattle.cedar_text_parser.specs.declared.policies.ParsedPolicies.{ParsedPolicies}
 use Rattle.cedar_authorizer.specs.declared.responses.partial_response.PartialResponse.{PartialResponse}
+use Rattle.cedar_authorizer.specs.responses.Responses.{errors_view}
 use Rattle.cedar_authorizer.specs.responses.Rows.{rows_view}
 use Rattle.cedar_authorizer.specs.Configured.{asked_of}
 use Rattle.cedar_authorizer.specs.Responding.{considered}
@@ -32,14 +35,17 @@ use Rattle.cedar_authorizer.specs.Running.{errors_of, request_of, IsRun}
 use Rattle.cedar_authorizer.specs.Steps.{response_said, IsStep}
 use Rattle.cedar_authorizer.specs.Headline.{IsHeadline}
 use Rattle.cedar_authorizer.specs.ByHand.{ChainGives, taken_with}
-use Rattle.cedar_json_writer.specs.Trees.{members_of}
+use Rattle.cedar_json_writer.specs.Texts.{object_of}
 use Rattle.cedar_json_writer.specs.Responses.{known_members}
 use Rattle.cedar_cli.specs.declared.asked.Asked.{Asked}
+use Rattle.cedar_cli.specs.declared.asked.Source.{Source}
 use Rattle.cedar_cli.specs.declared.asked.Step.{Step}
 use Rattle.cedar_cli.specs.declared.asked.Way.{Way}
 use Rattle.cedar_cli.specs.declared.decisions.Printed.{Printed}
 use Rattle.cedar_cli.specs.declared.steps.Taken.{Taken}
 use Rattle.cedar_cli.specs.Printing.{partial_status, partial_word}
+use Rattle.cedar_cli.specs.Named.{is_told}
+use Rattle.cedar_cli.specs.Documents.{IsErrorsArray, names_where}
 use Rattle.cedar_cli.specs.Questions.{levels, IsPartialRequest, IsGivenStore}
 use Rattle.cedar_cli.specs.Steps.{step_map, values_in, open_names, some_open, AreValuesSaid, IsStoreAfter}
 
@@ -135,19 +141,36 @@ pub record AreWords (first : PartialResponse) (later : List Taken) (p : Printed)
   pub words : AreWordsAbove first later above
   pub last : IsLastWord above (last_in first later) p
 
--- an object of all that is known of the response, behind a step if there is one
-pub record IsStageDocument (r : PartialResponse) (j : Json) : Type 0 where
-  pub step : List (Text × Json)
+-- the names of a step's files
+abbrev pub entities_file : Option Source → List (Text × Json)
+entities_file None = []
+entities_file (Some source) = (codes "entities", string source.name.now) ∷ []
+
+abbrev pub step_files : Step → List (Text × Json)
+step_files s = (codes "values", string s.values.name.now) ∷ entities_file s.entities
+
+-- these files, where there is a step
+abbrev pub step_members : Option Step → List (Text × Json)
+step_members None = []
+step_members (Some s) = (codes "step", object_of (step_files s)) ∷ []
+
+-- an object of all that is known of the response behind a step, if there is one: the files of the step, what the
+-- response knows, its errors with their places, and the names of the policies whose ids stand in all that
+pub record IsStageDocument (text : Text) (ps : List PolicyView) (step : Option Step) (r : PartialResponse) (j : Json)
+    : Type 0 where
   pub errors : Json
-  pub names : Json
-  pub is_object : j ≡ object (members_of (step ++ (known_members (request_view (request_of r)) (rows_view r)
-      ++ (codes "errors", errors) ∷ (codes "names", names) ∷ [])))
+  pub errors_are : IsErrorsArray text r.errors.items errors
+  pub is_object : j ≡ object_of (step_members step ++ (known_members (request_view (request_of r)) (rows_view r)
+      ++ (codes "errors", errors)
+      ∷ (codes "names", object_of (names_where (is_told (rows_view r) (errors_view r.errors.items)) ps)) ∷ []))
 
 -- those of the first response and of each behind a step, in order
-pub data AreDocuments (first : PartialResponse) : List Taken → List Json → Type 0 where
-  one_document : {j : Json} → IsStageDocument first j → AreDocuments first [] (j ∷ [])
-  document_behind : {ts : List Taken} {js : List Json} → AreDocuments first ts js → (t : Taken) (j : Json)
-      → IsStageDocument (last_in first (ts ++ t ∷ [])) j → AreDocuments first (ts ++ t ∷ []) (js ++ j ∷ [])
+pub data AreDocuments (text : Text) (ps : List PolicyView) (first : PartialResponse)
+    : List Taken → List Json → Type 0 where
+  one_document : {j : Json} → IsStageDocument text ps None first j → AreDocuments text ps first [] (j ∷ [])
+  document_behind : {ts : List Taken} {js : List Json} → AreDocuments text ps first ts js → (t : Taken) (j : Json)
+      → IsStageDocument text ps (Some t.step) (last_in first (ts ++ t ∷ [])) j
+      → AreDocuments text ps first (ts ++ t ∷ []) (js ++ j ∷ [])
 
 -- of no step the one alone, of more an array of them
 abbrev pub IsOfDocuments : List Taken → List Json → Json → Type 0
@@ -155,42 +178,45 @@ IsOfDocuments [] js j = js ≡ j ∷ []
 IsOfDocuments (t ∷ ts) js j = j ≡ array (items_of js)
 
 -- one JSON value says them
-pub record AreDocumented (first : PartialResponse) (later : List Taken) (j : Json) : Type 0 where
+pub record AreDocumented (text : Text) (ps : List PolicyView) (first : PartialResponse) (later : List Taken) (j : Json)
+    : Type 0 where
   pub documents : List Json
-  pub are : AreDocuments first later documents
+  pub are : AreDocuments text ps first later documents
   pub is_of : IsOfDocuments later documents j
 
 -- it stands on a line, and the exit status is that of the last response's decision
-pub record AreInDocument (first : PartialResponse) (later : List Taken) (p : Printed) : Type 0 where
+pub record AreInDocument (text : Text) (ps : List PolicyView) (first : PartialResponse) (later : List Taken)
+    (p : Printed) : Type 0 where
   pub document : Json
-  pub says : AreDocumented first later document
+  pub says : AreDocumented text ps first later document
   pub status_is : p.status ≡ partial_status (decision_in (last_in first later))
   pub output_is : string_bytes p.output ≡ print (json_tokens document) ++ codes "\n"
 
-abbrev pub ArePrintedAs : Bool → PartialResponse → List Taken → Printed → Type 0
-ArePrintedAs false first later p = AreWords first later p
-ArePrintedAs true first later p = AreInDocument first later p
+-- the responses, of the policies of a text, are printed as JSON or not
+abbrev pub ArePrintedAs : Bool → Text → List PolicyView → PartialResponse → List Taken → Printed → Type 0
+ArePrintedAs false text ps first later p = AreWords first later p
+ArePrintedAs true text ps first later p = AreInDocument text ps first later p
 
 -- ---- the whole
 
--- of these policies over this store: there are stages, and they are printed
-pub record IsPartlyAnsweredOver (X : world.Extensions) (calls : StoredCalls) (ps : PolicySet) (store : Entities)
-    (q : Asked) (steps : List Step) (w : Way) (p : Printed) : Type 0 where
+-- of these policies, of this text, over this store: there are stages, and they are printed
+pub record IsPartlyAnsweredOver (X : world.Extensions) (calls : StoredCalls) (text : Text) (ps : PolicySet)
+    (store : Entities) (q : Asked) (steps : List Step) (w : Way) (p : Printed) : Type 0 where
   pub first : PartialResponse
   pub later : List Taken
   pub stages : AreStages (partial_configuration X calls w) (considered ps) store q steps first later
-  pub printed : ArePrintedAs w.is_json first later p
+  pub printed : ArePrintedAs w.is_json text (policies_view ps) first later p
 
 -- of these policies: there is the closed store that is given
-pub record IsPartlyAnsweredBy (X : world.Extensions) (calls : StoredCalls) (ps : PolicySet) (q : Asked)
+pub record IsPartlyAnsweredBy (X : world.Extensions) (calls : StoredCalls) (text : Text) (ps : PolicySet) (q : Asked)
     (steps : List Step) (w : Way) (p : Printed) : Type 0 where
   pub store : Entities
   pub store_is : IsGivenStore X calls q store
-  pub answered : IsPartlyAnsweredOver X calls ps store q steps w p
+  pub answered : IsPartlyAnsweredOver X calls text ps store q steps w p
 
 -- there are policies, those that the text's tokens derive
 pub record IsPartiallyAuthorized (k : Knowledge) (X : world.Extensions) (calls : StoredCalls) (text : Text) (q : Asked)
     (steps : List Step) (w : Way) (p : Printed) : Type 0 where
   pub parsed : ParsedPolicies
   pub policies_are : AreAllRead k text levels parsed
-  pub answered : IsPartlyAnsweredBy X calls parsed.policies q steps w p
+  pub answered : IsPartlyAnsweredBy X calls text parsed.policies q steps w p

@@ -1,18 +1,24 @@
 //! What policies decide.
-ghost use Rattle.std.specs.Prelude.{◌≡◌, ◌++◌, IfOk, IfErr, codes, string_bytes, option_map};
+ghost use Rattle.std.specs.Prelude.{◌≡◌, ◌++◌, ◌==◌, false, length, IfOk, OnOk, IfErr, codes, string_bytes};
+ghost use Rattle.std.specs.Prelude.{option_map};
 ghost use Rattle.cedar_decisions.specs.Decisions.{decision_view};
 ghost use Rattle.json.specs.Print.{print};
 ghost use Rattle.json.specs.Tree.{json_tokens};
 ghost use Rattle.cedar_json_writer.specs.Trees.{json_view};
 ghost use Rattle.cedar_extensions.specs.Extensions.{extensions_view, calls_of};
-ghost use Rattle.cedar_authorizer.specs.responses.Responses.{response_view};
+ghost use Rattle.cedar_layers.specs.Policies.{policy_view};
+ghost use Rattle.cedar_layers.specs.PolicySets.{policies_view};
+ghost use Rattle.cedar_authorizer.specs.responses.Responses.{has_id, response_view};
 ghost use Rattle.cedar_cli.specs.Printing.{status, word, partial_status, partial_word};
 ghost use Rattle.cedar_cli.specs.Authorized.{IsAuthorized, IsAnsweredBy, IsAnsweredOver, IsResponseTo};
 ghost use Rattle.cedar_cli.specs.Reasons.{IsToldFor, IsUnauthorized, IsAskedUnread, IsRequestUnread};
-ghost use Rattle.cedar_cli.specs.Authorized.{AreNoneUnless, IsWord, IsDocument, IsPrinted};
+ghost use Rattle.cedar_cli.specs.Authorized.{AreReasonsIf, AreReasonLines, IsWord, IsDocument, IsPrinted};
+ghost use Rattle.cedar_cli.specs.Inputs.{AddsNameLine};
+ghost use Rattle.cedar_cli.specs.Named.{policy_name, IsNameLine, AreNameLines};
+ghost use Rattle.cedar_cli.specs.Visible.{IsVisible};
 
 use crate::asked::{Asked, Source, Way};
-use crate::documents::response_document;
+use crate::documents::{holds_id, response_document};
 use crate::limits::text_limit;
 use crate::places::Places;
 use crate::policies::{push_name, read_over};
@@ -21,8 +27,8 @@ use crate::refusal::Refusal;
 use crate::stores::given_store;
 use crate::visible::push_visible;
 use crate::warnings::{Deciding, push_errors, push_templates};
-use cedar_policy_core::ast::{Policy, PolicySet, Request};
-use cedar_policy_core::authorizer::{Authorizer, Decision, Diagnostics, Response};
+use cedar_policy_core::ast::{Policy, PolicyID, PolicySet, Request};
+use cedar_policy_core::authorizer::{Authorizer, Decision, Response};
 use cedar_policy_core::entities::Entities;
 use cedar_policy_core::entities::json::JsonValue;
 use cedar_policy_core::extensions::Extensions;
@@ -30,6 +36,7 @@ use cedar_policy_core::extensions::laws::functions_are_computed;
 use cedar_policy_core::parser::ParsedPolicies;
 use cedar_policy_core::parser::laws::known_calls_of_policies;
 use std::alloc::{AllocError, Global};
+use std::collections::HashSet;
 
 /// What is printed, what is told on standard error beside it, and the exit status.
 #[derive(Debug, Drop)]
@@ -164,7 +171,7 @@ fn authorize_parsed(
     extensions: &Extensions<'_>,
 ) -> Result<Printed, Refusal>
     ensures answered { IfOk result (IsAnsweredBy (extensions_view extensions.now) (calls_of extensions.now)
-        parsed.now.policies asked.now way) }
+        source.entry.text.now parsed.now.policies asked.now way) }
     ensures refused { IfErr result (IsToldFor
         (IsAskedUnread (extensions_view extensions.now) (calls_of extensions.now) asked.now)) }
 {
@@ -187,7 +194,7 @@ fn authorize_over_given_store(
     mut warnings: String,
 ) -> Result<Printed, Refusal>
     ensures answered { IfOk result (IsAnsweredBy (extensions_view extensions.now) (calls_of extensions.now)
-        deciding.entry.policies.now asked.now deciding.entry.way) }
+        deciding.entry.places.now.source.text.now deciding.entry.policies.now asked.now deciding.entry.way) }
     ensures refused { IfErr result (IsToldFor
         (IsAskedUnread (extensions_view extensions.now) (calls_of extensions.now) asked.now)) }
 {
@@ -213,7 +220,8 @@ fn authorize_over_store(
     warnings: String,
 ) -> Result<Printed, Refusal>
     ensures answered { IfOk result (IsAnsweredOver (extensions_view extensions.now) (calls_of extensions.now)
-        deciding.entry.policies.now entities.now asked.now deciding.entry.way) }
+        deciding.entry.places.now.source.text.now deciding.entry.policies.now entities.now asked.now
+        deciding.entry.way) }
     ensures refused { IfErr result (IsToldFor
         (IsRequestUnread (extensions_view extensions.now) (calls_of extensions.now) asked.now)) }
 {
@@ -248,7 +256,8 @@ fn print_response(
     response: &Response,
     warnings: String,
 ) -> Result<Printed, AllocError>
-    ensures { IfOk result (IsPrinted deciding.entry.way response.now.decision) }
+    ensures { IfOk result (IsPrinted deciding.entry.places.now.source.text.now deciding.entry.policies.now
+        deciding.entry.way response.now) }
 {
     if deciding.way.is_json {
         response_as_json(alloc, deciding, response, warnings)
@@ -263,7 +272,8 @@ fn response_as_json(
     response: &Response,
     warnings: String,
 ) -> Result<Printed, AllocError>
-    ensures { IfOk result (IsDocument response.now.decision) }
+    ensures { IfOk result (IsDocument deciding.entry.places.now.source.text.now
+        (policies_view deciding.entry.policies.now) response.now) }
 {
     let document = response_document(alloc, deciding, response)?;
     let printed = print_document(alloc, Some(response.decision), &document, warnings);
@@ -277,7 +287,8 @@ fn response_as_text(
     response: &Response,
     mut warnings: String,
 ) -> Result<Printed, AllocError>
-    ensures { IfOk result (IsWord deciding.entry.way.is_verbose response.now.decision) }
+    ensures { IfOk result (IsWord deciding.entry.way.is_verbose (policies_view deciding.entry.policies.now)
+        response.now) }
 {
     push_errors(alloc, deciding, &response.diagnostics.errors, &mut warnings)?;
     let lines = reason_lines(alloc, deciding, response)?;
@@ -292,35 +303,88 @@ fn reason_lines(
     deciding: Deciding<'_>,
     response: &Response,
 ) -> Result<String, AllocError>
-    ensures { IfOk result (λ s. AreNoneUnless deciding.entry.way.is_verbose (string_bytes s)) }
+    ensures { IfOk result (λ s. AreReasonsIf deciding.entry.way.is_verbose
+        (policies_view deciding.entry.policies.now) response.now (string_bytes s)) }
 {
     if deciding.way.is_verbose {
-        let mut lines = String::new(alloc);
-        push_reasons(alloc, deciding.policies, &response.diagnostics, &mut lines)?;
-        Ok(lines)
+        all_reasons(alloc, deciding.policies, &response.diagnostics.reason)
     } else {
         Ok(String::new(alloc))
     }
 }
 
 // The policies that determined the decision, in the order of the text.
-fn push_reasons(
+fn all_reasons(
     alloc: Global,
     policies: &PolicySet,
-    diagnostics: &Diagnostics,
-    output: &mut String,
-) -> Result<(), AllocError> {
-    if diagnostics.reason.is_empty() {
-        return output.push_str("\nnote: no policies applied to this request\n");
+    reasons: &HashSet<PolicyID>,
+) -> Result<String, AllocError>
+    ensures { IfOk result (λ s. AreReasonLines (length reasons.now.keys == 0) (has_id reasons.now)
+        (policies_view policies.now) (string_bytes s)) }
+{
+    if reasons.is_empty() {
+        String::from_str(alloc, "\nnote: no policies applied to this request\n")
+    } else {
+        some_reasons(alloc, policies, reasons)
     }
-    output.push_str("\nnote: this decision was due to the following policies:\n")?;
-    for policy in policies.policies() {
-        if diagnostics.reason.contains(policy.id()) {
-            output.push_str("  ")?;
-            push_visible_name(alloc, policy, output)?;
-            output.push_str("\n")?;
-        }
+}
+
+fn some_reasons(
+    alloc: Global,
+    policies: &PolicySet,
+    reasons: &HashSet<PolicyID>,
+) -> Result<String, AllocError>
+    ensures { IfOk result (λ s. AreReasonLines false (has_id reasons.now) (policies_view policies.now)
+        (string_bytes s)) }
+{
+    let names = reason_names(alloc, policies, reasons)?;
+    let mut lines = String::from_str(
+        alloc,
+        "\nnote: this decision was due to the following policies:\n",
+    )?;
+    lines.push_str(names.as_str())?;
+    drop(names);
+    Ok(lines)
+}
+
+// Their names, a line each.
+fn reason_names(
+    alloc: Global,
+    policies: &PolicySet,
+    reasons: &HashSet<PolicyID>,
+) -> Result<String, AllocError>
+    ensures { IfOk result (λ s. AreNameLines (has_id reasons.now) (policies_view policies.now) (string_bytes s)) }
+{
+    let mut lines = String::new(alloc);
+    'policies: for policy in policies.policies() {
+        push_reason(alloc, policy, reasons, &mut lines)?;
     }
+    Ok(lines)
+}
+
+fn push_reason(
+    alloc: Global,
+    policy: &Policy,
+    reasons: &HashSet<PolicyID>,
+    lines: &mut String,
+) -> Result<(), AllocError>
+    ensures { OnOk result (AddsNameLine (has_id reasons.now) (policy_view policy.now) (string_bytes lines.old)
+        (string_bytes lines.new)) }
+{
+    if holds_id(reasons, policy.id()) {
+        push_name_line(alloc, policy, lines)
+    } else {
+        Ok(())
+    }
+}
+
+fn push_name_line(alloc: Global, policy: &Policy, lines: &mut String) -> Result<(), AllocError>
+    ensures { OnOk result ((line : _) × IsNameLine (policy_view policy.now) line
+        × (string_bytes lines.new ≡ string_bytes lines.old ++ line)) }
+{
+    lines.push_str("  ")?;
+    push_visible_name(alloc, policy, lines)?;
+    lines.push_str("\n")?;
     Ok(())
 }
 
@@ -329,7 +393,10 @@ pub(crate) fn push_visible_name(
     alloc: Global,
     policy: &Policy,
     output: &mut String,
-) -> Result<(), AllocError> {
+) -> Result<(), AllocError>
+    ensures { OnOk result ((told : _) × IsVisible (policy_name (policy_view policy.now)) told
+        × (string_bytes output.new ≡ string_bytes output.old ++ told)) }
+{
     let mut name = String::new(alloc);
     push_name(alloc, policy, &mut name)?;
     push_visible(alloc, name.as_str(), output)

@@ -12,11 +12,12 @@
 //!   is told beside an answer.
 //!
 //! The promise, from the texts and the options on: what `authorize` prints is the decision on the policies, the
-//! entities and the request that the texts say (`specs/Authorized`, over `Questions`, `Standard` and `Documents`), and
-//! it refuses for the reasons of `specs/Reasons` alone; `partially_authorize_with` prints the decisions of a chain of
-//! steps, of which the last has the headline (`specs/Stages`, over `Steps`); what `evaluate_expression` prints is the
-//! value (`specs/Evaluated`, `Visible`), and `format_policies` keeps tokens and comments. Words and statuses go by
-//! `specs/Printing`, lines and columns by `specs/Noted`. A refused run has nothing to print by its type (`Answer`).
+//! entities and the request that the texts say (`specs/Authorized`, over `Questions` and `Standard`), and it refuses
+//! for the reasons of `specs/Reasons` alone; `partially_authorize` prints the decisions of a chain of steps, of which
+//! the last has the headline (`specs/Stages`, over `Steps`), and refuses for those of `specs/Stopped`; what
+//! `evaluate_expression` prints is the value (`specs/Evaluated`, `Visible`), and `format_policies` keeps tokens and
+//! comments. Words and statuses go by `specs/Printing`, policies' names by `specs/Named`, what is printed as JSON by
+//! `specs/Documents`, lines and columns by `specs/Noted`. A refused run has nothing to print by its type (`Answer`).
 //! `docs/COMMANDS.md` describes each command and where these promises end; the rest is tested by `cedar_test_cli`.
 #![tactic(auto)]
 
@@ -48,7 +49,7 @@ pub use asked::{Asked, Source, Step, Way};
 pub use cedar_policy_core::authorizer::{Decision, ErrorHandling};
 pub use decisions::{Printed, authorize, status_of};
 pub use evaluations::evaluate_expression;
-pub use partial::{partially_authorize, partially_authorize_with};
+pub use partial::partially_authorize;
 pub use policies::{check_format, check_policies, format_policies};
 pub use refusal::{Refusal, refuse_with_line};
 pub use run::{Answer, answer_command};

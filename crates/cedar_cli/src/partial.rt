@@ -2,11 +2,14 @@
 ghost use Rattle.std.specs.Prelude.{◌≡◌, ◌++◌, IfOk, IfErr, OnOk, codes, string_bytes, option_map};
 ghost use Rattle.cedar_decisions.specs.Decisions.{decision_view};
 ghost use Rattle.cedar_extensions.specs.Extensions.{extensions_view, calls_of};
+ghost use Rattle.cedar_layers.specs.PolicySets.{policies_view};
 ghost use Rattle.cedar_functions.specs.Functions.{these, signatures_of};
 ghost use Rattle.cedar_cli.specs.Printing.{partial_word};
 ghost use Rattle.cedar_cli.specs.Stages.{IsPartiallyAuthorized, IsPartlyAnsweredBy, IsPartlyAnsweredOver};
 ghost use Rattle.cedar_cli.specs.Stages.{ArePrintedAs, AreInDocument, AreWords, AreWordsAbove, IsWordOf, IsLastWord};
 ghost use Rattle.cedar_cli.specs.Inputs.{AddsWord};
+ghost use Rattle.cedar_cli.specs.Reasons.{IsToldFor};
+ghost use Rattle.cedar_cli.specs.Stopped.{IsPartlyUnanswered, IsPartlyUnansweredBy, IsPartlyUnansweredOver};
 
 use crate::asked::{Asked, Source, Step, Way};
 use crate::decisions::{
@@ -23,7 +26,7 @@ use crate::stores::{Store, given_store};
 use crate::undecided::push_why_open;
 use crate::visible::push_visible;
 use crate::warnings::{Deciding, push_errors, push_templates};
-use cedar_policy_core::ast::{EntityUID, Extension, ExtensionFunction, Name, Policy};
+use cedar_policy_core::ast::{EntityUID, Policy};
 use cedar_policy_core::authorizer::{Decision, PartialResponse, ReportedPolicies};
 use cedar_policy_core::extensions::Extensions;
 use cedar_policy_core::parser::ParsedPolicies;
@@ -31,33 +34,13 @@ use cedar_policy_core::writing::policy_to_cedar;
 use std::alloc::{AllocError, Global};
 use std::rc::RcStr;
 
-/// What is known of what the policies decide: the decision, if it is given, the policies that must and that may
-/// determine it, and what is left of each policy; and the same behind each step, below a line that says which step it
-/// is, or all this as one JSON value. A step takes values for unknowns, and perhaps another store; beside these each
-/// entity that a store lacked is itself. A step that names no unknown and brings no entities is not taken. The status
-/// is that of the last decision, 4 where that is not known. The errors of policies are told as warnings, and so is what
-/// does not show in the answer; as JSON the errors stand in the value. The functions are the standard ones and
-/// `unknown`.
+/// What is known of what the policies decide, where these are the functions: the decision, if it is given, the policies
+/// that must and that may determine it, and what is left of each policy; and the same behind each step, below a line
+/// that says which step it is, or all this as one JSON value. A step takes values for unknowns, and perhaps another
+/// store; beside these each entity that a store lacked is itself. A step that names no unknown and brings no entities
+/// is not taken. The status is that of the last decision, 4 where that is not known. The errors of policies are told as
+/// warnings, and so is what does not show in the answer; as JSON the errors stand in the value.
 pub fn partially_authorize(
-    alloc: Global,
-    policies: Source<'_>,
-    asked: &Asked<'_, '_>,
-    steps: &[Step<'_>],
-    way: Way,
-) -> Result<Printed, Refusal> {
-    let name = Name::new(RcStr::from_str(alloc, "partial_evaluation")?, None);
-    let functions = vec![in alloc; ExtensionFunction::unknown(alloc)?]?;
-    let all = vec![in alloc; Extension::new(name, functions, Vec::new(alloc))]?;
-    match Extensions::with_standard(alloc, all.as_slice()) {
-        Ok(extensions) => {
-            partially_authorize_with(alloc, &extensions, policies, asked, steps, way)
-        }
-        Err(_) => Err(Refusal::Memory),
-    }
-}
-
-/// The same, with these functions instead of the standard ones and `unknown`.
-pub fn partially_authorize_with(
     alloc: Global,
     extensions: &Extensions<'_>,
     policies: Source<'_>,
@@ -67,6 +50,8 @@ pub fn partially_authorize_with(
 ) -> Result<Printed, Refusal>
     ensures answered { IfOk result (IsPartiallyAuthorized (these (signatures_of extensions.now))
         (extensions_view extensions.now) (calls_of extensions.now) policies.entry.text.now asked.now steps.now way) }
+    ensures refused { IfErr result (IsToldFor (IsPartlyUnanswered (these (signatures_of extensions.now))
+        (extensions_view extensions.now) (calls_of extensions.now) policies.entry.text.now asked.now steps.now way)) }
 {
     let parsed = read_over(alloc, policies, extensions)?;
     let printed = partially_authorize_parsed(
@@ -86,7 +71,9 @@ fn partially_authorize_parsed(
     extensions: &Extensions<'_>,
 ) -> Result<Printed, Refusal>
     ensures answered { IfOk result (IsPartlyAnsweredBy (extensions_view extensions.now) (calls_of extensions.now)
-        parsed.now.policies asked.now steps.now way) }
+        source.entry.text.now parsed.now.policies asked.now steps.now way) }
+    ensures refused { IfErr result (IsToldFor (IsPartlyUnansweredBy (extensions_view extensions.now)
+        (calls_of extensions.now) parsed.now.policies asked.now steps.now way)) }
 {
     let places = Places::of(alloc, source)?;
     let mut warnings = String::new(alloc);
@@ -108,7 +95,9 @@ fn partially_authorize_over_given_store(
     mut warnings: String,
 ) -> Result<Printed, Refusal>
     ensures answered { IfOk result (IsPartlyAnsweredBy (extensions_view extensions.now) (calls_of extensions.now)
-        deciding.entry.policies.now asked.now steps.now deciding.entry.way) }
+        deciding.entry.places.now.source.text.now deciding.entry.policies.now asked.now steps.now deciding.entry.way) }
+    ensures refused { IfErr result (IsToldFor (IsPartlyUnansweredBy (extensions_view extensions.now)
+        (calls_of extensions.now) deciding.entry.policies.now asked.now steps.now deciding.entry.way)) }
 {
     let store = given_store(alloc, asked, extensions, &mut warnings)?;
     let printed = partially_authorize_over_store(
@@ -128,7 +117,11 @@ fn partially_authorize_over_store(
     mut warnings: String,
 ) -> Result<Printed, Refusal>
     ensures answered { IfOk result (IsPartlyAnsweredOver (extensions_view extensions.now) (calls_of extensions.now)
-        deciding.entry.policies.now store.now.entities asked.now steps.now deciding.entry.way) }
+        deciding.entry.places.now.source.text.now deciding.entry.policies.now store.now.entities asked.now steps.now
+        deciding.entry.way) }
+    ensures refused { IfErr result (IsToldFor (IsPartlyUnansweredOver (extensions_view extensions.now)
+        (calls_of extensions.now) deciding.entry.policies.now store.now.entities asked.now steps.now
+        deciding.entry.way)) }
 {
     let stages = all_stages(
         alloc,
@@ -151,7 +144,8 @@ fn print_stages(
     stages: &Stages<'_>,
     warnings: String,
 ) -> Result<Printed, AllocError>
-    ensures { IfOk result (ArePrintedAs deciding.entry.way.is_json stages.now.first stages.now.later.items) }
+    ensures { IfOk result (ArePrintedAs deciding.entry.way.is_json deciding.entry.places.now.source.text.now
+        (policies_view deciding.entry.policies.now) stages.now.first stages.now.later.items) }
 {
     if deciding.way.is_json {
         stages_as_json(alloc, deciding, stages, warnings)
@@ -166,7 +160,8 @@ fn stages_as_json(
     stages: &Stages<'_>,
     mut warnings: String,
 ) -> Result<Printed, AllocError>
-    ensures { IfOk result (AreInDocument stages.now.first stages.now.later.items) }
+    ensures { IfOk result (AreInDocument deciding.entry.places.now.source.text.now
+        (policies_view deciding.entry.policies.now) stages.now.first stages.now.later.items) }
 {
     let last = stages.last();
     push_why_open(alloc, last, &mut warnings)?;

@@ -1,11 +1,14 @@
 //! Policies of a text.
-ghost use Rattle.std.specs.Prelude.{IfOk, OnOk, IfErr, string_bytes};
+ghost use Rattle.std.specs.Prelude.{◌≡◌, ◌++◌, IfOk, OnOk, IfErr, string_bytes, option_copied};
+ghost use Rattle.cedar_layers.specs.Policies.{policy_view, policy_id_text};
 ghost use Rattle.cedar_functions.specs.Functions.{knowledge, these, signatures_of};
 ghost use Rattle.cedar_text_formatter.specs.Formatted.{IsFormatted};
 ghost use Rattle.cedar_text_parser.specs.PolicyHeights.{with_scope, AreAllNoHigher};
 ghost use Rattle.cedar_text_parser.specs.PolicyReading.{AreAllRead};
+ghost use Rattle.cedar_cli.specs.Named.{annotated, policy_name};
 ghost use Rattle.cedar_cli.specs.Questions.{levels, ArePoliciesOf};
-ghost use Rattle.cedar_cli.specs.Reasons.{IsToldFor, IsOfPolicies, ArePoliciesUnread, AreUnread};
+ghost use Rattle.cedar_cli.specs.Reasons.{IsToldFor, IsOfPolicies, ArePoliciesUnread, AreUnread, HasNoLayout};
+ghost use Rattle.cedar_cli.specs.Reasons.{IsNotLaidOut};
 
 use crate::asked::Source;
 use crate::limits::LEVELS;
@@ -166,7 +169,8 @@ pub fn check_policies(alloc: Global, source: Source<'_>) -> Result<(), Refusal>
 /// The text of the policies in one layout, with its comments: its tokens and comments stay what they are, in their
 /// order. Refused where the policies can't be read, in which the standard functions and `unknown` may be called.
 pub fn format_policies(alloc: Global, source: Source<'_>) -> Result<String, Refusal>
-    ensures { IfOk result (λ formatted. IsFormatted source.entry.text.now (string_bytes formatted)) }
+    ensures formatted { IfOk result (λ formatted. IsFormatted source.entry.text.now (string_bytes formatted)) }
+    ensures refused { IfErr result (IsToldFor (HasNoLayout source.entry.text.now)) }
 {
     check_policies(alloc, source)?;
     match format_text(alloc, source.text) {
@@ -178,7 +182,8 @@ pub fn format_policies(alloc: Global, source: Source<'_>) -> Result<String, Refu
 
 /// Whether the text of the policies is in that layout already: if not, or if they can't be read, it is refused.
 pub fn check_format(alloc: Global, source: Source<'_>) -> Result<(), Refusal>
-    ensures { OnOk result (IsFormatted source.entry.text.now source.entry.text.now) }
+    ensures passed { OnOk result (IsFormatted source.entry.text.now source.entry.text.now) }
+    ensures refused { IfErr result (IsToldFor (IsNotLaidOut source.entry.text.now)) }
 {
     check_policies(alloc, source)?;
     match is_formatted(alloc, source.text) {
@@ -213,11 +218,10 @@ pub(crate) fn with_id<'a>(policies: &'a PolicySet, id: &PolicyID) -> Option<&'a 
 }
 
 /// Writes how the policy is called: by its annotation `id` or, where it has none, by its id.
-pub(crate) fn push_name(
-    alloc: Global,
-    policy: &Policy,
-    out: &mut String,
-) -> Result<(), AllocError> {
+pub(crate) fn push_name(alloc: Global, policy: &Policy, out: &mut String) -> Result<(), AllocError>
+    ensures { OnOk result
+        (string_bytes out.new ≡ string_bytes out.old ++ policy_name (policy_view policy.now)) }
+{
     match annotated_id(policy) {
         Some(name) => out.push_str(name),
         None => push_id(alloc, policy.id(), out),
@@ -225,13 +229,17 @@ pub(crate) fn push_name(
 }
 
 /// The policy's annotation `id`, if it has one.
-pub(crate) fn annotated_id(policy: &Policy) -> Option<&str> {
+pub(crate) fn annotated_id(policy: &Policy) -> Option<&str>
+    ensures { option_copied result ≡ annotated (policy_view policy.now) }
+{
     match policy.annotations_rc().0.get("id") {
         Some(name) => Some(name.as_str()),
         None => None,
     }
 }
 
-pub(crate) fn push_id(alloc: Global, id: &PolicyID, out: &mut String) -> Result<(), AllocError> {
-    out.push_str(format!(in alloc; "{id}")?.as_str())
+pub(crate) fn push_id(alloc: Global, id: &PolicyID, out: &mut String) -> Result<(), AllocError>
+    ensures { OnOk result (string_bytes out.new ≡ string_bytes out.old ++ policy_id_text id.now) }
+{
+    out.push_str(id.to_string(alloc)?.as_str())
 }

@@ -254,7 +254,8 @@ fn type_of(alloc: Global, source: Source<'_>) -> Result<EntityType, Refusal>
     }
 }
 
-fn context_of(
+/// The context that the text writes.
+pub(crate) fn context_of(
     alloc: Global,
     source: Source<'_>,
     extensions: &Extensions<'_>,

@@ -2,12 +2,15 @@
 use crate::commands::cedar;
 use crate::files::Texts;
 use crate::{
-    Asked, ErrorHandling, Printed, Refusal, Source, Way, authorize, check_format, check_policies,
-    evaluate_expression, format_policies, partially_authorize,
+    Asked, ErrorHandling, Printed, Refusal, Source, Step, Way, authorize, check_format,
+    check_policies, evaluate_expression, format_policies, partially_authorize,
 };
+use cedar_policy_core::ast::{Extension, ExtensionFunction, Name};
+use cedar_policy_core::extensions::Extensions;
 use clap::error::ErrorKind;
 use clap::{ArgMatches, Error};
 use std::alloc::Global;
+use std::rc::RcStr;
 use std::rt::Files;
 
 /// What a command comes to.
@@ -133,9 +136,26 @@ fn partial(
         matches.get_flag("partial-step"),
         max_ancestors(matches),
     )?;
-    let printed = partially_authorize(alloc, texts.policies(), asked, &steps, way(matches));
+    let printed = with_unknown(alloc, texts.policies(), asked, &steps, way(matches));
     drop(steps);
     printed
+}
+
+// The functions are the standard ones and `unknown`.
+fn with_unknown(
+    alloc: Global,
+    policies: Source<'_>,
+    asked: &Asked<'_, '_>,
+    steps: &[Step<'_>],
+    way: Way,
+) -> Result<Printed, Refusal> {
+    let name = Name::new(RcStr::from_str(alloc, "partial_evaluation")?, None);
+    let functions = vec![in alloc; ExtensionFunction::unknown(alloc)?]?;
+    let all = vec![in alloc; Extension::new(name, functions, Vec::new(alloc))]?;
+    match Extensions::with_standard(alloc, all.as_slice()) {
+        Ok(extensions) => partially_authorize(alloc, &extensions, policies, asked, steps, way),
+        Err(_) => Err(Refusal::Memory),
+    }
 }
 
 // What the arguments say of the request and of the entities.

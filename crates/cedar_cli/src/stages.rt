@@ -8,7 +8,9 @@ ghost use Rattle.cedar_authorizer.specs.Responding.{considered};
 ghost use Rattle.cedar_authorizer.specs.Running.{request_of, IsRun};
 ghost use Rattle.cedar_cli.specs.Questions.{IsPartialRequest};
 ghost use Rattle.cedar_cli.specs.Inputs.{AreInputs};
+ghost use Rattle.cedar_cli.specs.Reasons.{IsToldFor, IsPartialUnread};
 ghost use Rattle.cedar_cli.specs.Stages.{last_in, partial_configuration, AreStages};
+ghost use Rattle.cedar_cli.specs.Stopped.{AreNoStages};
 
 use crate::asked::{Asked, Step, Way};
 use crate::limits::{STEPS, levels_within, too_many_steps};
@@ -52,6 +54,9 @@ pub(crate) fn all_stages<'t>(
     ensures stages { IfOk result (λ s. AreStages
         (partial_configuration (extensions_view extensions.now) (calls_of extensions.now) way) (considered policies.now)
         store.now.entities asked.now steps.now s.first s.later.items) }
+    ensures refused { IfErr result (IsToldFor (AreNoStages
+        (partial_configuration (extensions_view extensions.now) (calls_of extensions.now) way) (considered policies.now)
+        store.now.entities asked.now steps.now)) }
 {
     if steps.len() > STEPS {
         return Err(too_many_steps(alloc, steps.len()));
@@ -78,6 +83,10 @@ fn stages_of<'t>(
         → IfOk result (λ s. AreStages
         (partial_configuration (extensions_view extensions.now) (calls_of extensions.now) way) (considered policies.now)
         store.now.entities asked.now ss s.first s.later.items) }
+    ensures refused { (ss : List _) → AreInputs (extensions_view extensions.now) (calls_of extensions.now) ss inputs.now
+        → IfErr result (IsToldFor (AreNoStages
+        (partial_configuration (extensions_view extensions.now) (calls_of extensions.now) way) (considered policies.now)
+        store.now.entities asked.now ss)) }
 {
     let authorizer = Authorizer::new(extensions, levels_within(way.limit)).with_error_handling(
         way.error_handling,
@@ -115,6 +124,8 @@ fn first_stage(
     ensures run { IfOk result (λ r. IsRun (configuration authorizer.now)
         (asked_of (configuration authorizer.now) (request_view (request_of r)) (store_view store.now.entities))
         (considered policies.now) r) }
+    ensures refused { IfErr result (IsToldFor
+        (IsPartialUnread (extensions_view extensions.now) (calls_of extensions.now) asked.now)) }
 {
     let request = partial_request(alloc, asked, extensions)?;
     Ok(authorizer.is_authorized_core(alloc, request, policies, &store.entities)?)

@@ -1,5 +1,5 @@
 //! Steps: a partial answer, taken further by values for unknowns and perhaps another store.
-ghost use Rattle.std.specs.Prelude.{◌≡◌, ◌++◌, ◌∷◌, [], true, false, List, Ok, Some};
+ghost use Rattle.std.specs.Prelude.{◌≡◌, ◌++◌, ◌∷◌, [], true, false, List, Ok, Err, Some};
 ghost use Rattle.std.specs.Prelude.{IfOk, IfErr, IfSome, OnOk, is_some, map};
 ghost use Rattle.std.specs.Rc.{rc_str_bytes};
 ghost use Rattle.cedar_model.specs.Chains.{has_limit, is_limit};
@@ -13,22 +13,26 @@ ghost use Rattle.cedar_authorizer.specs.responses.Responses.{error_view, errors_
 ghost use Rattle.cedar_authorizer.specs.Steps.{response_said, step_by, IsStep};
 ghost use Rattle.cedar_model.specs.Outcomes.{has_text};
 ghost use Rattle.cedar_cli.specs.Steps.{step_map, with_value, with_values, values_in, AreValuesSaid};
-ghost use Rattle.cedar_cli.specs.Steps.{is_part, is_open, some_open};
+ghost use Rattle.cedar_cli.specs.Steps.{is_part, is_open, some_open, entities_lacked};
+ghost use Rattle.cedar_unknowns.specs.Themselves.{entity_values};
 ghost use Rattle.cedar_cli.specs.Stages.{last_in, response_or};
 ghost use Rattle.cedar_cli.specs.Inputs.{IsOwnStore, IsInput, AreInputs, store_or, AddsTaken, IsTakenBy, AreAllTaken};
-ghost use Rattle.cedar_cli.specs.Inputs.{IsIdle};
+ghost use Rattle.cedar_cli.specs.Inputs.{IsIdle, IsHalted, IsMemory};
+ghost use Rattle.cedar_cli.specs.Reasons.{IsToldFor, IsStoreUnread};
+ghost use Rattle.cedar_cli.specs.Stopped.{AreValuesUnread, IsStepUnread, IsOneUnread, IsAnother, GivesAnother};
+ghost use Rattle.cedar_cli.specs.Stopped.{AreStopped};
 
 use crate::asked::{Source, Step};
 use crate::left::open_names;
-use crate::limits::{LEVELS, push_limit};
-use crate::refusal::{Refusal, refuse_with_line, unread_json};
+use crate::limits::push_limit;
+use crate::reading::context_of;
+use crate::refusal::{Refusal, refuse_with_line};
 use crate::stores::{Given, Store, store_of};
 use crate::warnings::{push_idle_step, push_strays};
 use cedar_policy_core::ast::{Context, Expr, Unknowns, Value};
 use cedar_policy_core::authorizer::{
     AuthorizationError, Authorizer, PartialResponse, ReauthorizationError,
 };
-use cedar_policy_core::entities::json::context_from_json_str;
 use cedar_policy_core::extensions::Extensions;
 use std::alloc::{AllocError, Global};
 use std::collections::{BTreeMap, BTreeSet, HashMap};
@@ -71,6 +75,8 @@ pub(crate) fn step_inputs<'t>(
 ) -> Result<Vec<StepInput<'t>>, Refusal>
     ensures read { IfOk result (λ v.
         AreInputs (extensions_view extensions.now) (calls_of extensions.now) steps.now v.items) }
+    ensures refused { IfErr result (IsToldFor
+        (IsOneUnread (extensions_view extensions.now) (calls_of extensions.now) steps.now)) }
 {
     let mut inputs: Vec<StepInput<'t>> = Vec::new(alloc);
     'steps: for step in steps {
@@ -90,6 +96,8 @@ fn put_input<'t>(
         → AreInputs (extensions_view extensions.now) (calls_of extensions.now) ss inputs.old.items
         → OnOk result (AreInputs (extensions_view extensions.now) (calls_of extensions.now) (ss ++ step.now ∷ [])
         inputs.new.items) }
+    ensures refused { IfErr result (IsToldFor
+        (IsStepUnread (extensions_view extensions.now) (calls_of extensions.now) step.now)) }
 {
     let number = inputs.len().saturating_add(1);
     let input = step_input(alloc, number, *step, extensions, warnings)?;
@@ -106,6 +114,8 @@ fn step_input<'t>(
 ) -> Result<StepInput<'t>, Refusal>
     ensures step { IfOk result (λ i. i.step ≡ step.entry) }
     ensures input { IfOk result (IsInput (extensions_view extensions.now) (calls_of extensions.now)) }
+    ensures refused { IfErr result (IsToldFor
+        (IsStepUnread (extensions_view extensions.now) (calls_of extensions.now) step.entry)) }
 {
     let values = step_values(alloc, step.values, extensions)?;
     match step_store(alloc, step, extensions, warnings) {
@@ -130,6 +140,8 @@ fn step_store(
 ) -> Result<Option<Store>, Refusal>
     ensures own { IfOk result (IsOwnStore (extensions_view extensions.now) (calls_of extensions.now)
         step.entry.entities step.entry.is_partial) }
+    ensures refused { IfErr result (IsToldFor (IsStoreUnread (extensions_view extensions.now) (calls_of extensions.now)
+        step.entry.entities step.entry.max_ancestors)) }
 {
     match step.entities {
         Some(source) => {
@@ -152,16 +164,17 @@ fn step_values(
 ) -> Result<Context, Refusal>
     ensures said { IfOk result
         (AreValuesSaid (extensions_view extensions.now) (calls_of extensions.now) source.entry.text.now) }
+    ensures refused { IfErr result (IsToldFor
+        (AreValuesUnread (extensions_view extensions.now) (calls_of extensions.now) source.entry)) }
 {
-    match context_from_json_str(alloc, source.text, extensions, LEVELS) {
-        Ok(context) => known_values(alloc, source, context),
-        Err(error) => Err(unread_json(alloc, source, error)),
-    }
+    let context = context_of(alloc, source, extensions)?;
+    known_values(alloc, source, context)
 }
 
 fn known_values(alloc: Global, source: Source<'_>, context: Context) -> Result<Context, Refusal>
     ensures same { IfOk result (λ c. c ≡ context) }
     ensures known { IfOk result (λ c. is_some (context_values c) ≡ true) }
+    ensures refused { IfErr result (IsToldFor (is_some (context_values context) ≡ false)) }
 {
     if is_known(&context) {
         return Ok(context);
@@ -226,6 +239,11 @@ pub(crate) fn take_all<'t>(
         → AreInputs (configuration authorizer.now).extensions (configuration authorizer.now).calls ss inputs.now
         → later.old.items ≡ []
         → OnOk result (AreAllTaken (configuration authorizer.now) first.now store.now.entities ss later.new.items) }
+    ensures stopped { (ss : List _)
+        → AreInputs (configuration authorizer.now).extensions (configuration authorizer.now).calls ss inputs.now
+        → later.old.items ≡ []
+        → IfErr result
+        (IsToldFor (AreStopped (configuration authorizer.now) first.now store.now.entities ss)) }
 {
     let mut store = store;
     'inputs: for input in inputs {
@@ -292,6 +310,8 @@ fn take(
 ) -> Result<Option<PartialResponse>, Refusal>
     ensures taken { IfOk result
         (IsTakenBy (configuration authorizer.now) input.now store.now.entities response.now) }
+    ensures halted { IfErr result
+        (IsToldFor (IsHalted (configuration authorizer.now) input.now store.now.entities response.now)) }
 {
     if has_met_limit(&response.errors) {
         return Err(past_limit(alloc, input.step.values.name, limit));
@@ -311,6 +331,8 @@ fn take_values(
 ) -> Result<PartialResponse, Refusal>
     ensures step { IfOk result (λ n. IsStep (configuration authorizer.now)
         (step_map input.now.values response.now, store_view store.now.entities) (response_said response.now) (Ok n)) }
+    ensures halted { IfErr result
+        (IsToldFor (IsHalted (configuration authorizer.now) input.now store.now.entities response.now)) }
 {
     let values = values_beside(alloc, response, input)?;
     let next = take_over(alloc, authorizer, response, input, &values, store);
@@ -328,6 +350,8 @@ fn take_over(
 ) -> Result<PartialResponse, Refusal>
     ensures step { IfOk result (λ n. IsStep (configuration authorizer.now)
         (step_by values.now store.now.entities) (response_said response.now) (Ok n)) }
+    ensures refused { IfErr result (IsToldFor ((e : _) × IsStep (configuration authorizer.now)
+        (step_by values.now store.now.entities) (response_said response.now) (Err e))) }
 {
     match response.reauthorize(alloc, values, authorizer, &store.entities) {
         Ok(next) => Ok(next),
@@ -440,7 +464,9 @@ fn values_beside(
     response: &PartialResponse,
     input: &StepInput<'_>,
 ) -> Result<HashMap<RcStr, Value>, Refusal>
-    ensures { IfOk result (λ m. values_for m.entries ≡ step_map input.now.values response.now) }
+    ensures values { IfOk result (λ m. values_for m.entries ≡ step_map input.now.values response.now) }
+    ensures another { IfErr result (IsToldFor
+        (GivesAnother (entity_values (entities_lacked response.now)) (values_in input.now.values))) }
 {
     let mut values = response.entity_values(alloc)?;
     match put_values(alloc, input, &mut values) {
@@ -457,8 +483,10 @@ fn put_values(
     input: &StepInput<'_>,
     values: &mut HashMap<RcStr, Value>,
 ) -> Result<(), Refusal>
-    ensures { OnOk result (values_for values.new.entries
+    ensures put { OnOk result (values_for values.new.entries
         ≡ with_values (values_in input.now.values) (values_for values.old.entries)) }
+    ensures another { IfErr result (IsToldFor
+        (GivesAnother (values_for values.old.entries) (values_in input.now.values))) }
 {
     match input.values.as_value() {
         Some(pairs) => put_pairs(alloc, input.step.values.name, pairs, values),
@@ -472,20 +500,51 @@ fn put_pairs(
     pairs: &BTreeMap<RcStr, Value>,
     values: &mut HashMap<RcStr, Value>,
 ) -> Result<(), Refusal>
+    ensures put { OnOk result (values_for values.new.entries
+        ≡ with_values pairs.now.entries (values_for values.old.entries)) }
+    ensures another { IfErr result (IsToldFor (GivesAnother (values_for values.old.entries) pairs.now.entries)) }
+{
+    match first_another(pairs, values) {
+        Some(name) => Err(another_entity(alloc, source, name)),
+        None => {
+            put_each(pairs, values)?;
+            Ok(())
+        }
+    }
+}
+
+// The first name that the map has another value for.
+fn first_another<'p>(
+    pairs: &'p BTreeMap<RcStr, Value>,
+    values: &HashMap<RcStr, Value>,
+) -> Option<&'p RcStr>
+    ensures { IfSome result (λ name. GivesAnother (values_for values.now.entries) pairs.now.entries) }
+{
+    'pairs: for (name, value) in pairs.iter() {
+        if is_another(values, name, value) {
+            return Some(name);
+        }
+    }
+    None
+}
+
+fn put_each(
+    pairs: &BTreeMap<RcStr, Value>,
+    values: &mut HashMap<RcStr, Value>,
+) -> Result<(), AllocError>
     ensures { OnOk result (values_for values.new.entries
         ≡ with_values pairs.now.entries (values_for values.old.entries)) }
 {
     'pairs: for (name, value) in pairs.iter() {
-        if is_another(values, name, value) {
-            return Err(another_entity(alloc, source, name));
-        }
         put_value(name, value, values)?;
     }
     Ok(())
 }
 
 // Whether the map has another value under the name.
-fn is_another(values: &HashMap<RcStr, Value>, name: &RcStr, value: &Value) -> bool {
+fn is_another(values: &HashMap<RcStr, Value>, name: &RcStr, value: &Value) -> bool
+    ensures { result ≡ true → IsAnother (values_for values.now.entries (rc_str_bytes name.now)) value.now.what }
+{
     match values.get(name) {
         Some(other) => other != value,
         None => false,
@@ -535,7 +594,9 @@ fn past_limit_line(
 }
 
 #[cold]
-fn not_taken(alloc: Global, name: &str, error: ReauthorizationError) -> Refusal {
+fn not_taken(alloc: Global, name: &str, error: ReauthorizationError) -> Refusal
+    ensures { IsToldFor (¬ IsMemory error) result }
+{
     match error {
         ReauthorizationError::Memory(_) => Refusal::Memory,
         other => {

@@ -30,10 +30,10 @@ returns-clause-answered c =
     c.all_available-extensions.ensures.agrees in
     let read : AreAllRead standard_knowledge text levels parsed =
     subst (λ k. AreAllRead k text levels parsed) (known_alone x none there) c.in_ok-parsed.ensures.read in
-    of_ok (IsAnsweredBy (extensions_view x) (calls_of x) parsed.policies q w) (IsAuthorized text q w)
+    of_ok (IsAnsweredBy (extensions_view x) (calls_of x) text parsed.policies q w) (IsAuthorized text q w)
     (λ p h.
-    let viewed = subst (λ v. IsAnsweredBy v (calls_of x) parsed.policies q w p) (view_alone x none there) h in
-    let by = subst (λ calls. IsAnsweredBy standard_extensions calls parsed.policies q w p) (calls_alone x none there)
+    let viewed = subst (λ v. IsAnsweredBy v (calls_of x) text parsed.policies q w p) (view_alone x none there) h in
+    let by = subst (λ calls. IsAnsweredBy standard_extensions calls text parsed.policies q w p) (calls_alone x none there)
     viewed in
     let response = by.answered.response in
     let exact = exactly c.known_calls_of_policies.ensures.policies c.functions_are_computed.ensures.nothing_asked agree standard_knowledge text parsed read
@@ -49,7 +49,7 @@ returns-clause-answered c =
       response_is = by.answered.response_is;
       exact = exact;
       printed = by.answered.printed;
-      allows = λ unlimited. allowed_exactly (mode_view w.error_handling) parsed.policies by.entities by.answered.request
+      allows = λ unlimited. allowed_exactly (mode_view w.error_handling) text parsed.policies by.entities by.answered.request
           response w p (exact unlimited) by.answered.printed;
     })
     c.authorize_parsed-printed.result c.authorize_parsed-printed.ensures.answered

@@ -8,10 +8,11 @@ use Rattle.cedar_cli.proofs.decisions.authorize_over_given_store.Goals as goal
 pub returns-clause-answered : goal.returns-clause-answered
 returns-clause-answered g c =
     let x = c.args.extensions.now in
+    let text = c.args.deciding.places.now.source.text.now in
     let ps = c.args.deciding.policies.now in
     let s = c.in_ok-store.store.entities in
-    of_ok (IsAnsweredOver (extensions_view x) (calls_of x) ps s c.args.asked.now c.args.deciding.way)
-    (IsAnsweredBy (extensions_view x) (calls_of x) ps c.args.asked.now c.args.deciding.way)
+    of_ok (IsAnsweredOver (extensions_view x) (calls_of x) text ps s c.args.asked.now c.args.deciding.way)
+    (IsAnsweredBy (extensions_view x) (calls_of x) text ps c.args.asked.now c.args.deciding.way)
     (λ p h. record { entities = s; store_is = c.in_ok-store.ensures.given; answered = h })
     c.authorize_over_store-printed.result c.authorize_over_store-printed.ensures.answered
 

@@ -1,4 +1,5 @@
 use Rattle.std.proofs.Common.{sym, ap, subst, ◌∙◌, List, [], ◌∷◌, ◌++◌, map, length, nat_eq}
+use Rattle.cedar_layers.specs.PolicySets.{policies_view}
 use Rattle.cedar_json_writer.specs.Trees.{json_view}
 use Rattle.cedar_json_writer.specs.declared.tree.JsonValue.{JsonValue}
 use Rattle.cedar_json_writer.specs.declared.tree.JsonValue.TheVariants.{Array}
@@ -11,7 +12,7 @@ use Rattle.cedar_cli.proofs.documents.stages_document.Goals as goal
 pub returns-then-is_empty : goal.returns-then-is_empty
 returns-then-is_empty c =
     let later = c.args.stages.now.later.items in
-    documented_alone c.args.stages.now.first later (json_view c.in_ok-first.first)
+    documented_alone c.args.deciding.places.now.source.text.now (policies_view c.args.deciding.policies.now) c.args.stages.now.first later (json_view c.in_ok-first.first)
     (is_none later (ap (λ (l : List Taken). nat_eq (length l) 0) (sym c.as_slice.ensures.value) ∙ sym c.is_empty.ensures
     ∙ c.if-is_empty.true)) c.in_ok-first.ensures
 
@@ -20,9 +21,11 @@ returns c =
     let first = c.args.stages.now.first in
     let later = c.args.stages.now.later.items in
     let all = c.put_stages.new.all in
-    documented_in_order first later (map json_view all.items) (json_view (Array all))
-    (subst (λ l. AreDocuments first l (map json_view all.items)) c.deref.ensures.value
-    (c.in_ok-put_stages.ensures (subst (AreDocuments first [])
+    let text = c.args.deciding.places.now.source.text.now in
+    let ps = policies_view c.args.deciding.policies.now in
+    documented_in_order text ps first later (map json_view all.items) (json_view (Array all))
+    (subst (λ l. AreDocuments text ps first l (map json_view all.items)) c.deref.ensures.value
+    (c.in_ok-put_stages.ensures (subst (AreDocuments text ps first [])
     (sym (c.in_ok-put_item.ensures
     ∙ ap (λ (l : List JsonValue). map json_view l ++ json_view c.in_ok-first.first ∷ []) c.new-all.ensures.items))
     (one_document c.in_ok-first.ensures))))

@@ -1,19 +1,35 @@
 use Rattle.cedar_extensions.specs.Extensions.{extensions_view, calls_of}
+use Rattle.cedar_cli.specs.Reasons.{IsToldFor, IsStoreUnread}
 use Rattle.cedar_cli.specs.Stages.{IsPartlyAnsweredOver, IsPartlyAnsweredBy}
-use Rattle.cedar_cli.proofs.Composed.{of_ok}
+use Rattle.cedar_cli.specs.Stopped.{IsPartlyUnansweredOver, IsPartlyUnansweredBy, for_given_store, for_stages}
+use Rattle.cedar_cli.proofs.Composed.{of_ok, of_err}
+use Rattle.cedar_cli.proofs.Reasoned.{because}
 use Rattle.cedar_cli.proofs.partial.partially_authorize_over_given_store.Goals as goal
 
-pub returns : goal.returns
-returns g c =
+pub returns-clause-answered : goal.returns-clause-answered
+returns-clause-answered g c =
+    let x = c.args.extensions.now in
+    let text = c.args.deciding.places.now.source.text.now in
+    let ps = c.args.deciding.policies.now in
+    let s = c.in_ok-store.store.entities in
+    let q = c.args.asked.now in
+    let steps = c.args.steps.now in
+    let w = c.args.deciding.way in
+    of_ok (IsPartlyAnsweredOver (extensions_view x) (calls_of x) text ps s q steps w)
+    (IsPartlyAnsweredBy (extensions_view x) (calls_of x) text ps q steps w)
+    (λ p h. record { store = s; store_is = c.in_ok-store.ensures.given; answered = h })
+    c.partially_authorize_over_store-printed.result c.partially_authorize_over_store-printed.ensures.answered
+
+pub returns-clause-refused : goal.returns-clause-refused
+returns-clause-refused g c =
     let x = c.args.extensions.now in
     let ps = c.args.deciding.policies.now in
     let s = c.in_ok-store.store.entities in
     let q = c.args.asked.now in
     let steps = c.args.steps.now in
     let w = c.args.deciding.way in
-    record {
-      answered = of_ok (IsPartlyAnsweredOver (extensions_view x) (calls_of x) ps s q steps w)
-          (IsPartlyAnsweredBy (extensions_view x) (calls_of x) ps q steps w)
-          (λ p h. record { store = s; store_is = c.in_ok-store.ensures.given; answered = h })
-          c.partially_authorize_over_store-printed.result c.partially_authorize_over_store-printed.ensures.answered;
-    }
+    of_err _ _
+    (λ r. because (IsPartlyUnansweredOver (extensions_view x) (calls_of x) ps s q steps w)
+    (IsPartlyUnansweredBy (extensions_view x) (calls_of x) ps q steps w)
+    (λ h. for_stages s c.in_ok-store.ensures.given h) r)
+    c.partially_authorize_over_store-printed.result c.partially_authorize_over_store-printed.ensures.refused

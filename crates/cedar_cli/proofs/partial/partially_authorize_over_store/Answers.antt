@@ -1,11 +1,9 @@
 use Rattle.cedar_cli.proofs.partial.partially_authorize_over_store.Goals as goal
 
-pub returns : goal.returns
-returns g c = record {
-  answered = record {
-    first = c.in_ok-stages.stages.first;
-    later = c.in_ok-stages.stages.later.items;
-    stages = c.in_ok-stages.ensures.stages;
-    printed = c.in_ok-printed.ensures;
-  };
+pub returns-clause-answered : goal.returns-clause-answered
+returns-clause-answered g c = record {
+  first = c.in_ok-stages.stages.first;
+  later = c.in_ok-stages.stages.later.items;
+  stages = c.in_ok-stages.ensures.stages;
+  printed = c.in_ok-printed.ensures;
 }

@@ -1,7 +1,7 @@
 use Rattle.std.proofs.Common.{ap, sym, ◌∙◌}
 use Rattle.cedar_requests.specs.Substitutions.{values_for}
 use Rattle.cedar_cli.specs.Steps.{with_values}
-use Rattle.cedar_cli.proofs.steps.put_pairs.Goals as goal
+use Rattle.cedar_cli.proofs.steps.put_each.Goals as goal
 
 pub pairs-preserved : goal.pairs-preserved
 pairs-preserved c =

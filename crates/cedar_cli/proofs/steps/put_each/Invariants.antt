@@ -1,7 +1,7 @@
 use Rattle.std.proofs.Common.{◌≡◌}
 use Rattle.cedar_requests.specs.Substitutions.{values_for}
 use Rattle.cedar_cli.specs.Steps.{with_values}
-use Rattle.cedar_cli.proofs.steps.put_pairs.Given as goal
+use Rattle.cedar_cli.proofs.steps.put_each.Given as goal
 
 abbrev pub invariant-pairs : goal.invariant-pairs
 invariant-pairs l =
