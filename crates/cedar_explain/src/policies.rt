@@ -40,7 +40,7 @@ pub fn explain_policy(
 }
 
 // The same of a condition under these slots.
-fn explained(
+pub(crate) fn explained(
     alloc: Global,
     evaluator: &Evaluator<'_, '_>,
     slots: &SlotEnv,
