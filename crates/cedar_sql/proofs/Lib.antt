@@ -1,4 +1,5 @@
 pub mod Cells
+pub mod Doubling
 pub mod Filling
 pub mod Holders
 pub mod Truths

@@ -48,7 +48,7 @@ truth_in (set_value vs) v is = absurd (cc)
 truth_in (record_value fs) v is = absurd (cc)
 truth_in (extension_value t k) v is = absurd (cc)
 
-truth_of : (r : Told) (v : Value) → told_value r ≡ Some v → HasFailed r v ⊎ HasTruth r v
+pub truth_of : (r : Told) (v : Value) → told_value r ≡ Some v → HasFailed r v ⊎ HasTruth r v
 truth_of (tells (gives w)) v is = inr (truth_in w v is)
 truth_of (tells (errs k)) v is = let same : v ≡ Null = cc in inl (record { kind = k; is_told = refl; is_null = same })
 truth_of untold v is = absurd (cc)

@@ -4,3 +4,4 @@ pub mod Meaning
 pub mod Said
 pub mod Sides
 pub mod Terms
+pub mod Texts

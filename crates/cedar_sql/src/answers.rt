@@ -72,7 +72,8 @@ fn said(alloc: Global, condition: &Condition, columns: &Columns) -> Result<SqlTe
 
 // ---- the first part that is none
 
-fn unsaid_in<'a>(condition: &'a Condition, columns: &Columns) -> Option<&'a Condition>
+/// The first part of the condition, from left to right, that is none in SQL on these columns, as `sql_of` refuses it.
+pub fn unsaid_in<'a>(condition: &'a Condition, columns: &Columns) -> Option<&'a Condition>
     ensures { option_copied result ≡ unsaid columns.now condition.now }
 {
     match condition {

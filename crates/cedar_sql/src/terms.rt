@@ -23,6 +23,12 @@ pub enum SqlTerm {
     IsNull(Box<SqlTerm>),
     /// `NOT`
     Not(Box<SqlTerm>),
+    /// `IS 1` or `IS 0`: never NULL.
+    Is(Box<SqlTerm>, bool),
+    /// `AND`
+    And(Box<SqlTerm>, Box<SqlTerm>),
+    /// `OR`
+    Or(Box<SqlTerm>, Box<SqlTerm>),
     /// `=`, `<` or `<=`, of texts by their bytes.
     Compare(Comparison, Box<SqlTerm>, Box<SqlTerm>),
     /// `CASE .. WHEN 1 THEN .. WHEN 0 THEN .. END`: where the first is neither 1 nor 0, it is NULL.

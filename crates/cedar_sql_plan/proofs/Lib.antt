@@ -1,0 +1,5 @@
+pub mod Adding
+pub mod Counting
+pub mod Deciding
+pub mod Telling
+pub mod Truths
