@@ -1,0 +1,12 @@
+mod Told
+mod Held
+mod Alone
+mod Known
+mod Exact
+mod Composed
+mod Responding
+mod Records
+mod Bare
+mod Named
+mod Due
+mod Started

@@ -1,0 +1,122 @@
+//! What an engine answers.
+ghost use Rattle.std.specs.Prelude.{◌≡◌, true, IfOk};
+ghost use Rattle.cedar_extensions.specs.Extensions.{extensions_view, calls_of};
+ghost use Rattle.cedar_endpoints.specs.Asked.{evaluation_view};
+ghost use Rattle.cedar_service.specs.Asked.{has_known_context};
+ghost use Rattle.cedar_service.specs.Decided.{IsDecided, IsDecidedWith, IsAuthorized, IsAuthorizedWith};
+ghost use Rattle.cedar_service.specs.Decided.{IsAnswered, IsRefusalOf};
+
+use crate::engine::Engine;
+use crate::faults::{Refusal, refuse};
+use crate::requests::{has_known_context, request_of, request_said};
+use crate::responses::{outcome_of, response_to};
+use cedar_endpoints::{Decider, Evaluation, Outcome};
+use cedar_extensions::Extensions;
+use cedar_requests::Request;
+use std::alloc::{AllocError, Global};
+
+/// An evaluation is decided as the policies decide its request, or refused with the path of what is wrong in it; and so
+/// is a text of Cedar's JSON.
+impl Decider for Engine {
+    ghost decides = { IsDecided };
+
+    ghost authorizes = { IsAuthorized };
+
+    fn decide(&self, alloc: Global, question: &Evaluation<'_, '_>) -> Result<Outcome, AllocError> {
+        decide(self, alloc, question)
+    }
+
+    fn authorize(&self, alloc: Global, text: &str) -> Result<Outcome, AllocError> {
+        authorize(self, alloc, text)
+    }
+}
+
+fn decide(
+    engine: &Engine,
+    alloc: Global,
+    question: &Evaluation<'_, '_>,
+) -> Result<Outcome, AllocError>
+    ensures { IfOk result (IsDecided engine.now (evaluation_view question.now)) }
+{
+    let extensions = Extensions::all_available();
+    decide_with(engine, alloc, question, &extensions)
+}
+
+fn authorize(engine: &Engine, alloc: Global, text: &str) -> Result<Outcome, AllocError>
+    ensures { IfOk result (IsAuthorized engine.now text.now) }
+{
+    let extensions = Extensions::all_available();
+    authorize_with(engine, alloc, text, &extensions)
+}
+
+fn decide_with(
+    engine: &Engine,
+    alloc: Global,
+    question: &Evaluation<'_, '_>,
+    extensions: &Extensions<'_>,
+) -> Result<Outcome, AllocError>
+    ensures { IfOk result (IsDecidedWith (extensions_view extensions.now) (calls_of extensions.now) engine.now
+        (evaluation_view question.now)) }
+{
+    match request_of(alloc, question, extensions) {
+        Ok(request) => answer(engine, alloc, request, extensions),
+        Err(refusal) => refused(refusal),
+    }
+}
+
+fn authorize_with(
+    engine: &Engine,
+    alloc: Global,
+    text: &str,
+    extensions: &Extensions<'_>,
+) -> Result<Outcome, AllocError>
+    ensures { IfOk result (IsAuthorizedWith (extensions_view extensions.now) (calls_of extensions.now) engine.now
+        text.now) }
+{
+    match request_said(alloc, text, extensions) {
+        Ok(request) => answer(engine, alloc, request, extensions),
+        Err(refusal) => refused(refusal),
+    }
+}
+
+fn answer(
+    engine: &Engine,
+    alloc: Global,
+    request: Request,
+    extensions: &Extensions<'_>,
+) -> Result<Outcome, AllocError>
+    ensures { IfOk result (IsAnswered (extensions_view extensions.now) (calls_of extensions.now) engine.now request) }
+{
+    if has_known_context(&request) {
+        answer_known(engine, alloc, request, extensions)
+    } else {
+        drop(request);
+        refused(refuse(alloc, "$.context", "an unknown stands in it"))
+    }
+}
+
+fn answer_known(
+    engine: &Engine,
+    alloc: Global,
+    request: Request,
+    extensions: &Extensions<'_>,
+) -> Result<Outcome, AllocError>
+    requires { has_known_context request ≡ true }
+    ensures { IfOk result (IsAnswered (extensions_view extensions.now) (calls_of extensions.now) engine.now request) }
+{
+    let response = response_to(alloc, engine, request, extensions)?;
+    let outcome = outcome_of(alloc, &response);
+    drop(response);
+    outcome
+}
+
+// No decision, for what is told.
+#[cold]
+fn refused(refusal: Refusal) -> Result<Outcome, AllocError>
+    ensures { IfOk result (IsRefusalOf refusal) }
+{
+    match refusal {
+        Refusal::Told(error) => Ok(Outcome::Refused { error }),
+        Refusal::Memory => Err(AllocError),
+    }
+}

@@ -1,0 +1,27 @@
+//! The engine behind a service that decides: Cedar's policies and entities, which are read once from texts, and what
+//! they decide of each request that AuthZEN's JSON or Cedar's own asks.
+//!
+//! - `engine`: `Engine`, and why none is made of two texts. `deciding`: what an engine answers, as `cedar_endpoints`
+//!   asks it.
+//! - `requests`, `names`, `contexts`: the request that is asked. `responses`: the decision, and its response as JSON.
+//! - `faults`: why there is no decision. `serving`: one connection.
+//!
+//! The promise: an engine has the policies and the entities that its texts say (`IsEngineOf` in `specs/Started`), or
+//! the text that is wrong is named with its reader's own errors (`IsNotStarted`). What it decides of a request is the
+//! decision that the policies have over the entities, by the rules of evaluation and by what they mean (`IsDecided`,
+//! `IsAuthorized` in `specs/Decided`, over `IsResponseTo`), of the very request that is asked (`IsAsked`, `IsSaid` in
+//! `specs/Asked`); all else is a refusal with the path of what is wrong, and no decision. Over a connection each
+//! request is answered by what is due to it alone (`AreDue` in `specs/Serving`), and what is sent is these answers.
+#![tactic(auto)]
+
+mod contexts;
+mod deciding;
+mod engine;
+mod faults;
+mod names;
+mod requests;
+mod responses;
+mod serving;
+
+pub use engine::{Engine, NotStarted};
+pub use serving::serve_decisions;

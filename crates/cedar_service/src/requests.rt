@@ -1,0 +1,189 @@
+#![tactic(auto, using(crate::proofs::Held::held))]
+//! The request that is asked.
+ghost use Rattle.std.specs.Prelude.{◌≡◌, Ok, IfOk, IfErr, codes};
+ghost use Rattle.cedar_extensions.specs.Extensions.{extensions_view, calls_of};
+ghost use Rattle.cedar_names.specs.Names.{uid_name};
+ghost use Rattle.cedar_model.specs.Settings.{known_entry};
+ghost use Rattle.cedar_requests.specs.Contexts.{context_view};
+ghost use Rattle.cedar_requests.specs.Requests.{request_view};
+ghost use Rattle.cedar_endpoints.specs.Asked.{evaluation_view, named_view};
+ghost use Rattle.cedar_service.specs.Asked.{IsAsked, IsUnasked, AreUnnamed, IsSaid, IsUnsaid};
+ghost use Rattle.cedar_service.specs.Asked.{entity_said, action_named, has_known_context, is_known_part};
+ghost use Rattle.cedar_service.specs.Faults.{IsToldAs};
+
+use crate::contexts::{LEVELS, context_of};
+use crate::faults::{Refusal, refuse_json};
+use crate::names::{action_of, entity_of};
+use cedar_endpoints::Evaluation;
+use cedar_extensions::Extensions;
+use cedar_json_reader::request_from_json_str;
+use cedar_names::EntityUID;
+use cedar_requests::{Context, Request};
+use std::alloc::{AllocError, Global};
+
+// The three entities of a request.
+#[derive(Drop)]
+struct Entities {
+    principal: EntityUID,
+    action: EntityUID,
+    resource: EntityUID,
+}
+
+/// The request that the evaluation asks. Refuses the first of these: a subject whose type is no name, such a resource,
+/// a context that says no record or does not evaluate.
+pub(crate) fn request_of(
+    alloc: Global,
+    question: &Evaluation<'_, '_>,
+    extensions: &Extensions<'_>,
+) -> Result<Request, Refusal>
+    ensures asked { IfOk result (IsAsked (extensions_view extensions.now) (calls_of extensions.now)
+        (evaluation_view question.now)) }
+    ensures refused { IfErr result (IsToldAs
+        (IsUnasked (extensions_view extensions.now) (calls_of extensions.now) (evaluation_view question.now))) }
+{
+    match entities_of(alloc, question) {
+        Ok(entities) => with_context(alloc, question, entities, extensions),
+        Err(refusal) => Err(refusal),
+    }
+}
+
+fn with_context(
+    alloc: Global,
+    question: &Evaluation<'_, '_>,
+    entities: Entities,
+    extensions: &Extensions<'_>,
+) -> Result<Request, Refusal>
+    requires principal { entity_said (named_view question.now.subject) ≡ Ok (uid_name entities.principal) }
+    requires resource { entity_said (named_view question.now.resource) ≡ Ok (uid_name entities.resource) }
+    requires action { uid_name entities.action ≡ action_named question.now.action.now }
+    ensures asked { IfOk result (IsAsked (extensions_view extensions.now) (calls_of extensions.now)
+        (evaluation_view question.now)) }
+    ensures refused { IfErr result (IsToldAs
+        (IsUnasked (extensions_view extensions.now) (calls_of extensions.now) (evaluation_view question.now))) }
+{
+    match context_of(alloc, question.context, extensions) {
+        Ok(context) => Ok(request_with(entities, context)),
+        Err(refusal) => {
+            drop(entities);
+            Err(refusal)
+        }
+    }
+}
+
+// The entities of the request.
+fn entities_of(alloc: Global, question: &Evaluation<'_, '_>) -> Result<Entities, Refusal>
+    ensures principal { IfOk result (λ e.
+        entity_said (named_view question.now.subject) ≡ Ok (uid_name e.principal)) }
+    ensures resource { IfOk result (λ e.
+        entity_said (named_view question.now.resource) ≡ Ok (uid_name e.resource)) }
+    ensures action { IfOk result (λ e. uid_name e.action ≡ action_named question.now.action.now) }
+    ensures refused { IfErr result (IsToldAs (AreUnnamed (evaluation_view question.now))) }
+{
+    match entity_of(alloc, question.subject, "$.subject.type") {
+        Ok(principal) => with_resource(alloc, question, principal),
+        Err(refusal) => Err(refusal),
+    }
+}
+
+fn with_resource(
+    alloc: Global,
+    question: &Evaluation<'_, '_>,
+    principal: EntityUID,
+) -> Result<Entities, Refusal>
+    requires { entity_said (named_view question.now.subject) ≡ Ok (uid_name principal) }
+    ensures principal { IfOk result (λ e.
+        entity_said (named_view question.now.subject) ≡ Ok (uid_name e.principal)) }
+    ensures resource { IfOk result (λ e.
+        entity_said (named_view question.now.resource) ≡ Ok (uid_name e.resource)) }
+    ensures action { IfOk result (λ e. uid_name e.action ≡ action_named question.now.action.now) }
+    ensures refused { IfErr result (IsToldAs (AreUnnamed (evaluation_view question.now))) }
+{
+    match entity_of(alloc, question.resource, "$.resource.type") {
+        Ok(resource) => with_action(alloc, question, principal, resource),
+        Err(refusal) => {
+            drop(principal);
+            Err(refusal)
+        }
+    }
+}
+
+fn with_action(
+    alloc: Global,
+    question: &Evaluation<'_, '_>,
+    principal: EntityUID,
+    resource: EntityUID,
+) -> Result<Entities, Refusal>
+    requires principal { entity_said (named_view question.now.subject) ≡ Ok (uid_name principal) }
+    requires resource { entity_said (named_view question.now.resource) ≡ Ok (uid_name resource) }
+    ensures principal { IfOk result (λ e.
+        entity_said (named_view question.now.subject) ≡ Ok (uid_name e.principal)) }
+    ensures resource { IfOk result (λ e.
+        entity_said (named_view question.now.resource) ≡ Ok (uid_name e.resource)) }
+    ensures action { IfOk result (λ e. uid_name e.action ≡ action_named question.now.action.now) }
+    ensures refused { IfErr result (IsToldAs (AreUnnamed (evaluation_view question.now))) }
+{
+    match action_of(alloc, question.action) {
+        Ok(action) => Ok(Entities {
+            principal,
+            action,
+            resource,
+        }),
+        Err(AllocError) => {
+            drop(principal);
+            drop(resource);
+            Err(Refusal::Memory)
+        }
+    }
+}
+
+fn request_with(entities: Entities, context: Context) -> Request
+    ensures { request_view result ≡ record {
+      principal_entry = known_entry (uid_name entities.principal);
+      action_entry = known_entry (uid_name entities.action);
+      resource_entry = known_entry (uid_name entities.resource);
+      context_part = context_view context;
+    } }
+{
+    let Entities {
+        principal,
+        action,
+        resource,
+    } = entities;
+    Request::of(principal, action, resource, context)
+}
+
+/// The request that the text says, in Cedar's JSON. Refuses what says none, and a context that does not evaluate.
+pub(crate) fn request_said(
+    alloc: Global,
+    text: &str,
+    extensions: &Extensions<'_>,
+) -> Result<Request, Refusal>
+    ensures said { IfOk result (IsSaid (extensions_view extensions.now) (calls_of extensions.now) text.now) }
+    ensures refused { IfErr result (IsToldAs
+        (IsUnsaid (extensions_view extensions.now) (calls_of extensions.now) text.now)) }
+{
+    match request_from_json_str(alloc, text, extensions, LEVELS) {
+        Ok(request) => Ok(request),
+        Err(error) => {
+            let refusal = refuse_json(alloc, "$", &error);
+            drop(error);
+            Err(refusal)
+        }
+    }
+}
+
+/// Whether no unknown stands in the context of the request.
+pub(crate) fn has_known_context(request: &Request) -> bool
+    ensures { result ≡ has_known_context request.now }
+{
+    match request.context() {
+        Some(context) => is_known(context),
+        None => false,
+    }
+}
+
+fn is_known(context: &Context) -> bool
+    ensures { result ≡ is_known_part (context_view context.now) }
+{
+    context.as_value().is_some()
+}
