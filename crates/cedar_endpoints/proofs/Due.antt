@@ -8,7 +8,8 @@ use Rattle.cedar_endpoints.specs.declared.replies.Reply.{Reply}
 use Rattle.cedar_endpoints.specs.declared.routes.Route.{Route}
 use Rattle.cedar_endpoints.specs.Answers.{IsSent}
 use Rattle.cedar_endpoints.specs.Asked.{Text, Evaluation}
-use Rattle.cedar_endpoints.specs.Served.{Decides, IsReply, asked_route, request_id, IsServed}
+use Rattle.cedar_endpoints.specs.Several.{Decides}
+use Rattle.cedar_endpoints.specs.Served.{IsReply, asked_route, request_id, IsServed}
 
 on_ok : {A E : Type 0} (P Q : Type 0) → (P → Q) → (r : Result A E) → OnOk r P → OnOk r Q
 on_ok P Q f (Ok a) h = f h

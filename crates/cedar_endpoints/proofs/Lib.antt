@@ -3,4 +3,6 @@ mod Fields
 mod Given
 mod Unread
 mod Texts
+mod Joined
+mod Listed
 mod Due

@@ -87,6 +87,7 @@ knows keys.Evaluations k =
 knows keys.Entity k =
     bytes_eq k (codes "type") || (bytes_eq k (codes "id") || bytes_eq k (codes "properties"))
 knows keys.Action k = bytes_eq k (codes "name") || bytes_eq k (codes "properties")
+knows keys.Options k = bytes_eq k (codes "evaluations_semantic")
 
 -- some member has another key
 abbrev pub has_other : Keys → Members → Bool

@@ -15,7 +15,8 @@ shown r m = if bytes_eq m (codes "GET") || bytes_eq m (codes "HEAD") then r else
 abbrev pub route_of : List ℕ → List ℕ → Route
 route_of m p =
     if bytes_eq p (codes "/access/v1/evaluation") then posted routes.Evaluation m else (
+    if bytes_eq p (codes "/access/v1/evaluations") then posted routes.Evaluations m else (
     if bytes_eq p (codes "/v1/authorize") then posted routes.Authorize m else (
     if bytes_eq p (codes "/healthz") then shown routes.Health m else (
     if bytes_eq p (codes "/.well-known/authzen-configuration") then shown routes.Metadata m else
-    routes.Unknown)))
+    routes.Unknown))))

@@ -15,25 +15,24 @@ use Rattle.cedar_endpoints.specs.declared.replies.Reply.{Reply}
 use Rattle.cedar_endpoints.specs.declared.routes.Route.{Route}
 use Rattle.cedar_endpoints.specs.declared.routes.Route.TheVariants as routes
 use Rattle.cedar_endpoints.specs.Answers.{IsSent}
-use Rattle.cedar_endpoints.specs.Asked.{Text, Said, Evaluation, evaluation_said}
+use Rattle.cedar_endpoints.specs.declared.service.Asks.{Asks}
+use Rattle.cedar_endpoints.specs.declared.service.Asks.TheVariants as asks
+use Rattle.cedar_endpoints.specs.Asked.{Text, Evaluation, evaluation_said}
 use Rattle.cedar_endpoints.specs.Documents.{IsRepliedTo, whole}
-use Rattle.cedar_endpoints.specs.Replies.{Replies, IsFault, IsOutcome, error_text}
+use Rattle.cedar_endpoints.specs.Replies.{Replies, IsFault, error_text}
+use Rattle.cedar_endpoints.specs.Several.{Decides, IsDecided, AreEvaluated}
 use Rattle.cedar_endpoints.specs.Routes.{route_of}
 
--- which outcomes there are for what is asked
-abbrev pub Decides : Type 0 → Type 1
-Decides Question = Question → Outcome → Type 0
-
 -- ---- AuthZEN's evaluation
-
--- what is decided for what is said; or 400 for what is wrong
-abbrev pub IsDecided : Decides Evaluation → Said Evaluation → Reply → Type 0
-IsDecided decides (Err f) r = IsFault statuses.BadRequest f r
-IsDecided decides (Ok q) r = (o : Outcome) × decides q o × IsOutcome o r
 
 -- the document's evaluation is decided, if it says one
 abbrev pub IsEvaluated : Decides Evaluation → Json → Reply → Type 0
 IsEvaluated decides j r = IsDecided decides (evaluation_said j) r
+
+-- the same, or all evaluations of a document that may ask several
+abbrev pub IsEvaluatedAs : Asks → Decides Evaluation → Json → Reply → Type 0
+IsEvaluatedAs asks.One = IsEvaluated
+IsEvaluatedAs asks.Several = AreEvaluated
 
 -- ---- Cedar's own request
 
@@ -56,6 +55,7 @@ IsMetadata (Some text) = Replies statuses.Ok text
 
 abbrev pub IsReply : Decides Evaluation → Decides Text → Option Text → Route → Text → Reply → Type 0
 IsReply decides authorizes metadata routes.Evaluation body r = IsRepliedTo (IsEvaluated decides) body r
+IsReply decides authorizes metadata routes.Evaluations body r = IsRepliedTo (AreEvaluated decides) body r
 IsReply decides authorizes metadata routes.Authorize body r = IsAuthorized authorizes body r
 IsReply decides authorizes metadata routes.Health body r = Replies statuses.Ok (codes "{\"status\":\"ok\"}") r
 IsReply decides authorizes metadata routes.Metadata body r = IsMetadata metadata r

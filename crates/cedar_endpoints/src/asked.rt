@@ -46,6 +46,8 @@ pub enum Keys {
     Entity,
     /// Those of an action.
     Action,
+    /// Those of the options of several evaluations.
+    Options,
 }
 
 /// What the document asks by itself. Refuses what is no object, a member that is unexpected, one that is missing or of
@@ -265,7 +267,7 @@ fn text_of<'v>(
     }
 }
 
-fn text_in<'v>(
+pub(crate) fn text_in<'v>(
     part: &'static str,
     member: &'static str,
     value: &'v Value<'_>,
@@ -343,6 +345,7 @@ fn knows(keys: Keys, key: &str) -> bool
         Keys::Evaluations => is_evaluation_key(key) || key == "evaluations" || key == "options",
         Keys::Entity => key == "type" || key == "id" || key == "properties",
         Keys::Action => key == "name" || key == "properties",
+        Keys::Options => key == "evaluations_semantic",
     }
 }
 

@@ -4,6 +4,8 @@
 //! - `routes`: which endpoint a method and a path name.
 //! - `asked`: what a document of AuthZEN's evaluation asks: who, what is to be done, with what, in which context; or
 //!   the first thing that is wrong with it, and where.
+//! - `several`, `semantics`: what a document with several evaluations asks, and where it stops. `evaluations`: their
+//!   answers.
 //! - `decider`: what decides, as a trait. `service`: the service over HTTP that asks it.
 //! - `documents`: bodies as JSON. `replies`: the JSON texts that are replied. `answers`: the status, the header fields
 //!   and the body that are sent.
@@ -18,13 +20,17 @@ mod answers;
 mod asked;
 mod decider;
 mod documents;
+mod evaluations;
 mod replies;
 mod routes;
+mod semantics;
 mod service;
+mod several;
 
 pub use answers::Status;
 pub use asked::{Evaluation, Fault, Keys, Named, read_evaluation};
 pub use decider::Decider;
 pub use replies::{Outcome, Reply, fault_json};
 pub use routes::{Route, route_of};
+pub use semantics::Semantic;
 pub use service::Decisions;

@@ -115,7 +115,7 @@ pub fn fault_json(alloc: Global, fault: Fault) -> Result<String, AllocError>
     format!(in alloc; "{open}{part}{member}{between}{reason}{close}")
 }
 
-fn error_text(alloc: Global, error: &str) -> Result<String, AllocError>
+pub(crate) fn error_text(alloc: Global, error: &str) -> Result<String, AllocError>
     ensures { IfOk result (λ s. string_bytes s ≡ error_text error.now) }
 {
     let open = "{\"error\":";

@@ -7,6 +7,8 @@ ghost use Rattle.cedar_endpoints.specs.Routes.{route_of, posted, shown};
 pub enum Route {
     /// A decision, as AuthZEN asks for it.
     Evaluation,
+    /// Decisions, as AuthZEN asks for several at once.
+    Evaluations,
     /// A decision, as Cedar's JSON asks for it.
     Authorize,
     /// Whether the service answers.
@@ -27,6 +29,8 @@ pub fn route_of(method: &str, path: &str) -> Route
 {
     if path == "/access/v1/evaluation" {
         posted(Route::Evaluation, method)
+    } else if path == "/access/v1/evaluations" {
+        posted(Route::Evaluations, method)
     } else if path == "/v1/authorize" {
         posted(Route::Authorize, method)
     } else if path == "/healthz" {

@@ -1,24 +1,34 @@
 #![tactic(auto, using(crate::proofs::Texts::texts))]
 //! The service.
-ghost use Rattle.std.specs.Prelude.{◌≡◌, Ok, IfOk, OnOk, option_map, string_bytes};
+ghost use Rattle.std.specs.Prelude.{◌≡◌, IfOk, OnOk, option_map, string_bytes};
 ghost use Rattle.http_server.specs.Response.{IsBlank};
-ghost use Rattle.cedar_endpoints.specs.Asked.{evaluation_view, fault_view};
+ghost use Rattle.cedar_endpoints.specs.Asked.{fault_view};
 ghost use Rattle.json.specs.Value.{value_view};
 ghost use Rattle.cedar_endpoints.specs.Documents.{IsRepliedTo, IsReplyUnread, whole};
-ghost use Rattle.cedar_endpoints.specs.Served.{IsDecided, IsEvaluated, IsAuthorized, IsResponded, IsMetadata};
+ghost use Rattle.cedar_endpoints.specs.Served.{IsEvaluated, IsEvaluatedAs, IsAuthorized, IsResponded, IsMetadata};
 ghost use Rattle.cedar_endpoints.specs.Served.{IsReply, IsServed};
 
 use crate::answers::{Status, send};
-use crate::asked::{Evaluation, Fault, read_evaluation};
+use crate::asked::{Fault, read_evaluation};
 use crate::decider::Decider;
 use crate::documents::{Unread, parse_json};
-use crate::replies::{Outcome, Reply, faulty, plain, refused, reply_of};
+use crate::evaluations::{decide_said, evaluate_all};
+use crate::replies::{Outcome, Reply, faulty, plain, refused};
 use crate::routes::{Route, route_of};
 use bytes::Bytes;
 use http::Request;
 use http_server::{Response, Service};
 use json::{Scratch, Value};
 use std::alloc::{AllocError, Global};
+
+// How many evaluations a document may ask.
+#[derive(Clone, Copy)]
+pub(crate) enum Asks {
+    // One.
+    One,
+    // One, or a list of several.
+    Several,
+}
 
 /// A service that asks one decider.
 #[derive(Drop)]
@@ -65,7 +75,8 @@ fn reply<D: Decider>(service: &Decisions<D>, route: Route, body: &[u8]) -> Resul
 {
     let alloc = service.alloc;
     match route {
-        Route::Evaluation => evaluate(alloc, &service.decider, body),
+        Route::Evaluation => evaluate(alloc, &service.decider, Asks::One, body),
+        Route::Evaluations => evaluate(alloc, &service.decider, Asks::Several, body),
         Route::Authorize => authorize(alloc, &service.decider, body),
         Route::Health => plain(alloc, "{\"status\":\"ok\"}"),
         Route::Metadata => metadata(alloc, &service.metadata),
@@ -100,21 +111,31 @@ fn metadata(alloc: Global, metadata: &Option<String>) -> Result<Reply, AllocErro
 
 // ---- AuthZEN's evaluation
 
-fn evaluate<D: Decider>(alloc: Global, decider: &D, body: &[u8]) -> Result<Reply, AllocError>
-    ensures { IfOk result (IsRepliedTo (IsEvaluated (D.decides decider.now)) body.now) }
+fn evaluate<D: Decider>(
+    alloc: Global,
+    decider: &D,
+    asks: Asks,
+    body: &[u8],
+) -> Result<Reply, AllocError>
+    ensures { IfOk result (IsRepliedTo (IsEvaluatedAs asks (D.decides decider.now)) body.now) }
 {
     match str::from_utf8(body) {
-        Ok(text) => evaluate_text(alloc, decider, text),
+        Ok(text) => evaluate_text(alloc, decider, asks, text),
         Err(_) => faulty(alloc, Status::BadRequest, whole("not UTF-8")),
     }
 }
 
-fn evaluate_text<D: Decider>(alloc: Global, decider: &D, text: &str) -> Result<Reply, AllocError>
-    ensures { IfOk result (IsRepliedTo (IsEvaluated (D.decides decider.now)) text.now) }
+fn evaluate_text<D: Decider>(
+    alloc: Global,
+    decider: &D,
+    asks: Asks,
+    text: &str,
+) -> Result<Reply, AllocError>
+    ensures { IfOk result (IsRepliedTo (IsEvaluatedAs asks (D.decides decider.now)) text.now) }
 {
     let mut scratch = Scratch::new(alloc);
     match parse_json(alloc, text, &mut scratch) {
-        Ok(value) => evaluate_value(alloc, decider, &value),
+        Ok(value) => evaluate_value(alloc, decider, asks, &value),
         Err(unread) => reply_unread(alloc, unread),
     }
 }
@@ -138,25 +159,25 @@ fn reply_unread(alloc: Global, unread: Unread) -> Result<Reply, AllocError>
 fn evaluate_value<D: Decider>(
     alloc: Global,
     decider: &D,
+    asks: Asks,
+    value: &Value<'_>,
+) -> Result<Reply, AllocError>
+    ensures { IfOk result (IsEvaluatedAs asks (D.decides decider.now) (value_view value.now)) }
+{
+    match asks {
+        Asks::One => evaluate_one(alloc, decider, value),
+        Asks::Several => evaluate_all(alloc, decider, value),
+    }
+}
+
+fn evaluate_one<D: Decider>(
+    alloc: Global,
+    decider: &D,
     value: &Value<'_>,
 ) -> Result<Reply, AllocError>
     ensures { IfOk result (IsEvaluated (D.decides decider.now) (value_view value.now)) }
 {
-    match read_evaluation(value) {
-        Ok(asked) => decide(alloc, decider, &asked),
-        Err(fault) => faulty(alloc, Status::BadRequest, fault),
-    }
-}
-
-fn decide<D: Decider>(
-    alloc: Global,
-    decider: &D,
-    asked: &Evaluation<'_, '_>,
-) -> Result<Reply, AllocError>
-    ensures { IfOk result (IsDecided (D.decides decider.now) (Ok (evaluation_view asked.now))) }
-{
-    let outcome = decider.decide(alloc, asked)?;
-    reply_of(alloc, &outcome)
+    decide_said(alloc, decider, read_evaluation(value))
 }
 
 // ---- Cedar's own request

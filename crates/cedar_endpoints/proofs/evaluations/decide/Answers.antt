@@ -1,9 +1,9 @@
 use Rattle.std.proofs.Common.{Ok}
 use Rattle.cedar_endpoints.specs.Asked.{evaluation_view}
 use Rattle.cedar_endpoints.specs.Replies.{IsOutcome}
-use Rattle.cedar_endpoints.specs.Served.{IsDecided}
+use Rattle.cedar_endpoints.specs.Several.{IsDecided}
 use Rattle.cedar_endpoints.proofs.Texts.{of_ok}
-use Rattle.cedar_endpoints.proofs.service.decide.Goals as goal
+use Rattle.cedar_endpoints.proofs.evaluations.decide.Goals as goal
 
 pub returns : goal.returns
 returns g c =

@@ -1,0 +1,397 @@
+"""Conversations over HTTP with `cedar_serve`, and the bytes that are due to them.
+
+    python3 conversations.py write             writes `stdin` and `stdout` of crates/cedar_serve
+    python3 conversations.py run PROGRAM       compares what a built program answers to this conversation, to the same in pieces, and
+                                               to each request that ends a connection
+
+Decisions, reasons and which policies err come from `evaluator.py` over the policies and entities of crates/cedar_serve/data, which
+`cedar_reader.py` and `json_texts.py` read; where an extension is called the reasons stand beside the request. Status, fields, bodies
+and what is wrong with a request stand beside it, by docs/SERVING.md and RFC 9112. Nothing is taken from what the program answers.
+"""
+import json
+import os
+import random
+import subprocess
+import sys
+import threading
+
+import json_texts
+from evaluator import decided, reads
+
+CRATE = os.path.join(os.path.dirname(os.path.realpath(__file__)), "..", "..", "crates", "cedar_serve")
+REASONS = {200: "OK", 400: "Bad Request", 404: "Not Found", 405: "Method Not Allowed", 413: "Payload Too Large", 414: "URI Too Long",
+           431: "Request Header Fields Too Large", 501: "Not Implemented"}
+EVALUATION, EVALUATIONS, AUTHORIZE, HEALTH = "/access/v1/evaluation", "/access/v1/evaluations", "/v1/authorize", "/healthz"
+METADATA = "/.well-known/authzen-configuration"
+URL = "https://pdp.example.com"
+NO_HOUR = "record does not have the attribute `hour`"
+
+
+def read(name):
+    with open(f"{CRATE}/data/{name}", "rb") as it:
+        return it.read()
+
+
+POLICIES = reads(read("documents.cedar").decode())
+STORE = json_texts.Store(json_texts.document(read("documents.json")))
+
+
+def compact(j):
+    return json.dumps(j, separators=(",", ":"), ensure_ascii=False)
+
+
+# ---- what is sent
+
+def request(method, path, body=None, fields=(), version="1.1", host="pdp"):
+    """A request, whose body is JSON, or bytes as they are."""
+    if body is not None and not isinstance(body, bytes):
+        body = compact(body).encode()
+    lines = [f"{method} {path} HTTP/{version}"]
+    lines += [f"Host: {host}"] if host is not None else []
+    lines += fields
+    lines += [] if body is None or any("chunked" in it for it in fields) else [f"Content-Length: {len(body)}"]
+    return "\r\n".join(lines).encode() + b"\r\n\r\n" + (body or b"")
+
+
+def chunks(body, *sizes):
+    out, at = b"", 0
+    for size in (*sizes, len(body) - sum(sizes)):
+        out += b"%x\r\n%s\r\n" % (size, body[at:at + size])
+        at += size
+    return out
+
+
+# ---- what is due
+
+def due(status, body, allow=None, id=None, is_head=False, version="1.1", connection=None):
+    body = body if isinstance(body, bytes) else compact(body).encode()
+    lines = [f"HTTP/{version} {status} {REASONS[status]}", "content-type: application/json"]
+    lines += [f"allow: {allow}"] if allow else []
+    lines += [f"x-request-id: {id}"] if id is not None else []
+    lines += [f"content-length: {len(body)}"]
+    lines += [f"connection: {connection}"] if connection else []
+    return "\r\n".join(lines).encode() + b"\r\n\r\n" + (b"" if is_head else body)
+
+
+def wrong(path, reason, status=400, **more):
+    return due(status, {"error": {"path": path, "reason": reason}}, **more)
+
+
+def unknown(**more):
+    return wrong("$", "nothing is here", 404, **more)
+
+
+def refused(status):
+    """What `http_server` answers by itself, and closes."""
+    return f"HTTP/1.1 {status} {REASONS[status]}\r\nconnection: close\r\ncontent-length: 0\r\n\r\n".encode()
+
+
+def response(principal, action, resource, context, reasons=None):
+    """Cedar's response to a request; `reasons` of a permit are given where an extension is called."""
+    if reasons is None:
+        three = [("entity", *it) for it in (principal, ("Action", action), resource)]
+        said = json_texts.context(json_texts.document(compact(context).encode()))
+        allowed, reasons, erring = decided(POLICIES, STORE, three + [said])
+    else:
+        allowed, erring = True, []
+    return {"decision": "allow" if allowed else "deny", "reason": [f"policy{n}" for n in reasons],
+            "errors": [{"policyId": f"policy{n}", "message": NO_HOUR} for n in erring]}
+
+
+# ---- rows: what it is, what is sent, what is due
+
+ANN, BOB, EVE = ("User", "ann"), ("User", "bob"), ("User", "eve")
+PLAN, VAULT, MENU = ("Document", "plan"), ("Document", "vault"), ("Document", 'café "menu"')
+
+
+def evaluation(subject, action, resource, context=None, **more):
+    asked = {"subject": {"type": subject[0], "id": subject[1]}, "action": {"name": action},
+             "resource": {"type": resource[0], "id": resource[1]}}
+    return asked | ({} if context is None else {"context": context}) | more
+
+
+def asks(what, subject, action, resource, context=None, reasons=None, fields=(), **more):
+    """An evaluation that is answered."""
+    r = response(subject, action, resource, context or {}, reasons)
+    body = {"decision": r["decision"] == "allow", "context": r}
+    return (what, request("POST", EVALUATION, evaluation(subject, action, resource, context), fields), due(200, body, **more))
+
+
+def errs(what, path, reason, body):
+    """An evaluation in which something is wrong."""
+    return (what, request("POST", EVALUATION, body), wrong(path, reason))
+
+
+def authorizes(what, principal, action, resource, context):
+    text = {"principal": f'{principal[0]}::{compact(principal[1])}', "action": f'Action::"{action}"',
+            "resource": {"type": resource[0], "id": resource[1]}, "context": context}
+    return (what, request("POST", AUTHORIZE, text), due(200, response(principal, action, resource, context)))
+
+
+def but(body, **parts):
+    """An evaluation with other parts; None leaves one out."""
+    return {k: v for k, v in (body | parts).items() if v is not None}
+
+
+GOOD = evaluation(ANN, "read", PLAN)
+GOOD_DUE = {"decision": True, "context": response(ANN, "read", PLAN, {})}
+BAD_DUE = {"decision": False, "context": response(BOB, "read", PLAN, {})}
+TEXT = compact(GOOD).encode()
+DEEP = b'{"subject":' + b"[" * 129 + b"]" * 129 + b"}"
+NO_POST = lambda **more: wrong("$", "there is POST alone", 405, allow="POST", **more)
+NO_GET = lambda **more: wrong("$", "there are GET and HEAD alone", 405, allow="GET, HEAD", **more)
+METADATA_DUE = {"policy_decision_point": URL, "access_evaluation_endpoint": URL + EVALUATION, "access_evaluations_endpoint": URL + EVALUATIONS}
+
+DECISIONS = [
+    asks("an editor reads, and owns", ANN, "read", PLAN),
+    asks("a guest reads", BOB, "read", PLAN),
+    asks("the same once more", BOB, "read", PLAN),
+    asks("an editor reads what nobody owns", ANN, "read", MENU),
+    asks("an owner deletes", ANN, "delete", PLAN),
+    asks("a guest deletes", BOB, "delete", PLAN),
+    asks("what is sealed, with two permits", ANN, "read", VAULT),
+    asks("what is sealed, by an auditor", ANN, "read", VAULT, {"role": "auditor"}),
+    asks("what is sealed, by another role", ANN, "read", VAULT, {"role": "Auditor"}),
+    asks("one of whom nothing is stored", EVE, "read", PLAN),
+    asks("an action of another name", ANN, "READ", MENU),
+    asks("a guest prints by day", BOB, "print", PLAN, {"hour": 8}),
+    asks("a guest prints by night", BOB, "print", PLAN, {"hour": 18}),
+    asks("a policy errs, and another permits", ANN, "print", PLAN),
+    asks("a policy errs, and none permits", BOB, "print", PLAN),
+    asks("a policy errs, and another forbids", ANN, "print", VAULT),
+    asks("an hour of another type is not asked of", BOB, "read", PLAN, {"hour": "eight"}),
+    asks("inside", BOB, "copy", MENU, {"address": {"__extn": {"fn": "ip", "arg": "10.1.2.3"}}}, reasons=[4]),
+    asks("a context with sets, records and entities", ANN, "read", MENU,
+         {"a": [1, "1", True], "b": {"c": {"__entity": {"type": "A::B", "id": ""}}}, "role": "\u2603 \t"}),
+    asks("an id with blanks, quotes and letters", BOB, "print", MENU, {"hour": 17}),
+    asks("an empty id", ("User", ""), "", ("Document", ""), {}),
+]
+IDS = [
+    asks("an id of the request", ANN, "read", PLAN, fields=["X-Request-ID: 7f"], id="7f"),
+    asks("the next has none", BOB, "read", PLAN),
+    asks("an id with blanks within, in small letters", BOB, "read", PLAN, fields=["x-request-id:  a b  "], id="a b"),
+    asks("of two ids the first", BOB, "read", PLAN, fields=["X-Request-ID: 1", "X-Request-ID: 2"], id="1"),
+    ("an id where something is wrong", request("POST", EVALUATION, b"{", ["X-Request-ID: 8"]), wrong("$", "not JSON", id="8")),
+    ("an id where nothing is", request("GET", "/", None, ["X-Request-ID: 9"]), unknown(id="9")),
+]
+WRONG = [
+    errs("no JSON", "$", "not JSON", b"{"),
+    errs("nothing", "$", "not JSON", b""),
+    errs("no UTF-8", "$", "not UTF-8", b'{"subject":"\xff"}'),
+    errs("a key twice", "$", "a key comes twice in an object", TEXT[:-1] + b',"action":{"name":"x"}}'),
+    errs("a key twice within", "$", "a key comes twice in an object", TEXT.replace(b'"name":"read"', b'"name":"read","name":"print"')),
+    errs("too deep", "$", "not JSON", DEEP),
+    errs("no object", "$", "not an object", [GOOD]),
+    errs("an unexpected member", "$", "an unexpected member", GOOD | {"decision": True}),
+    errs("several evaluations where one is asked", "$", "an unexpected member", GOOD | {"evaluations": [GOOD]}),
+    errs("no subject", "$.subject", "missing", but(GOOD, subject=None)),
+    errs("no action", "$.action", "missing", but(GOOD, action=None)),
+    errs("no resource", "$.resource", "missing", but(GOOD, resource=None)),
+    errs("a subject that is a text", "$.subject", "not an object", but(GOOD, subject="ann")),
+    errs("no type", "$.subject.type", "missing", but(GOOD, subject={"id": "ann"})),
+    errs("no id", "$.resource.id", "missing", but(GOOD, resource={"type": "Document"})),
+    errs("an id that is a number", "$.subject.id", "not a string", but(GOOD, subject={"type": "User", "id": 1})),
+    errs("a type that is no name", "$.resource.type", "not a name", but(GOOD, resource={"type": "a b", "id": "plan"})),
+    errs("an action without a name", "$.action.name", "missing", but(GOOD, action={})),
+    errs("a fraction in properties", "$.subject.properties", "properties are not supported",
+         TEXT.replace(b'"id":"ann"', b'"id":"ann","properties":{"age":41.5}')),
+    errs("null in properties", "$.resource.properties", "properties are not supported",
+         but(GOOD, resource={"type": "Document", "id": "plan", "properties": {"status": None}})),
+    ("empty properties", request("POST", EVALUATION, but(GOOD, action={"name": "read", "properties": {}})), due(200, GOOD_DUE)),
+    errs("a context that is no object", "$.context", "not an object", but(GOOD, context=[])),
+    errs("a fraction in the context", "$.context.hour", "not an integer of 64 bits", TEXT[:-1] + b',"context":{"hour":8.5}}'),
+    errs("null in the context", "$.context.a[1]", "null is no value", GOOD | {"context": {"a": [1, None]}}),
+    errs("an unknown in the context", "$.context", "an unknown stands in it",
+         GOOD | {"context": {"a": {"__extn": {"fn": "unknown", "arg": "a"}}}}),
+]
+
+
+def item(subject, action, resource, context=None):
+    """What is due to an item that is decided."""
+    r = response(subject, action, resource, context or {})
+    return {"decision": r["decision"] == "allow", "context": r}
+
+
+def denied(path, reason):
+    """What is due to an item in which something is wrong."""
+    return {"decision": False, "context": {"error": {"path": path, "reason": reason}}}
+
+
+def several(what, all, items, wanted, semantic=None):
+    body = all | {"evaluations": items} | ({} if semantic is None else {"options": {"evaluations_semantic": semantic}})
+    return (what, request("POST", EVALUATIONS, body), due(200, {"evaluations": wanted}))
+
+
+def said(entity):
+    return {"type": entity[0], "id": entity[1]}
+
+
+def not_several(what, path, reason, body):
+    return (what, request("POST", EVALUATIONS, body), wrong(path, reason))
+
+
+# Of these the first and the last are permitted.
+MIXED = [{"resource": said(PLAN)}, {"resource": said(VAULT)}, {"subject": said(BOB), "resource": said(PLAN)}, {"resource": said(MENU)}]
+MIXED_DUE = [item(ANN, "read", PLAN), item(ANN, "read", VAULT), item(BOB, "read", PLAN), item(ANN, "read", MENU)]
+READS = {"subject": said(ANN), "action": {"name": "read"}}
+SEVERAL = [
+    several("several, with the subject and the action of all", READS, MIXED, MIXED_DUE),
+    several("all of them, by name", READS, MIXED, MIXED_DUE, "execute_all"),
+    several("up to the first that is denied", READS, MIXED, MIXED_DUE[:2], "deny_on_first_deny"),
+    several("up to the first that is permitted", READS, MIXED, MIXED_DUE[:1], "permit_on_first_permit"),
+    several("up to the first that is permitted, which is the last", READS, MIXED[1:], MIXED_DUE[1:], "permit_on_first_permit"),
+    several("none is denied", READS, [MIXED[0], MIXED[3]], [MIXED_DUE[0], MIXED_DUE[3]], "deny_on_first_deny"),
+    several("a wrong item is denied, and the others are decided", READS, [{}, MIXED[0], 1, {"resource": said(PLAN), "x": 1}],
+            [denied("$.resource", "missing"), MIXED_DUE[0], denied("$", "not an object"), denied("$", "an unexpected member")]),
+    several("a wrong item stops them", READS, [MIXED[0], {}, MIXED[3]], [MIXED_DUE[0], denied("$.resource", "missing")], "deny_on_first_deny"),
+    several("a wrong item is no permit", READS, [{}, MIXED[0], MIXED[3]], [denied("$.resource", "missing"), MIXED_DUE[0]], "permit_on_first_permit"),
+    several("a type that is no name", READS, [{"resource": {"type": "", "id": ""}}], [denied("$.resource.type", "not a name")]),
+    several("the context of all, and one of its own, which is taken whole", READS | {"resource": said(VAULT), "context": {"role": "auditor"}},
+            [{}, {"context": {"hour": 9}}], [item(ANN, "read", VAULT, {"role": "auditor"}), item(ANN, "read", VAULT, {"hour": 9})]),
+    several("a resource of its own is taken whole", READS | {"resource": said(PLAN)}, [{"resource": {"id": "vault"}}], [denied("$.resource.type", "missing")]),
+    several("the same one twice", READS, [MIXED[0], MIXED[0]], [MIXED_DUE[0], MIXED_DUE[0]]),
+    ("no list is one evaluation", request("POST", EVALUATIONS, GOOD), due(200, GOOD_DUE)),
+    ("an empty list is one evaluation", request("POST", EVALUATIONS, GOOD | {"evaluations": []}), due(200, GOOD_DUE)),
+    not_several("no list, and no evaluation", "$.resource", "missing", READS),
+    not_several("a list that is none", "$.evaluations", "not an array", GOOD | {"evaluations": GOOD}),
+    not_several("no such semantic", "$.options.evaluations_semantic", "not a semantic", READS | {"evaluations": MIXED, "options": {"evaluations_semantic": "all"}}),
+    not_several("a semantic that is a number", "$.options.evaluations_semantic", "not a string", READS | {"evaluations": MIXED, "options": {"evaluations_semantic": 1}}),
+    not_several("other options", "$.options", "an unexpected member", READS | {"evaluations": MIXED, "options": {"semantic": "execute_all"}}),
+    not_several("options that are no object", "$.options", "not an object", READS | {"evaluations": MIXED, "options": None}),
+    not_several("another member", "$", "an unexpected member", READS | {"evaluation": MIXED}),
+    ("several with GET", request("GET", EVALUATIONS), NO_POST()),
+]
+CEDAR = [
+    authorizes("Cedar's request", ANN, "read", PLAN, {}),
+    authorizes("the same of a guest", BOB, "print", MENU, {"hour": 20}),
+    ("Cedar's request without a context", request("POST", AUTHORIZE, {"principal": 'User::"ann"', "action": 'Action::"read"', "resource": 'Document::"plan"'}),
+     wrong("$.context", "missing")),
+    ("Cedar's request with another member", request("POST", AUTHORIZE, {"principal": 'User::"ann"', "subject": 1}), wrong("$.subject", "unexpected")),
+    ("Cedar's request that is no UTF-8", request("POST", AUTHORIZE, b"\xff"), wrong("$", "not UTF-8")),
+]
+ENDPOINTS = [
+    ("it answers", request("GET", HEALTH), due(200, {"status": "ok"})),
+    ("HEAD", request("HEAD", HEALTH), due(200, {"status": "ok"}, is_head=True)),
+    ("a query", request("GET", HEALTH + "?deep=1"), due(200, {"status": "ok"})),
+    ("a whole URI", request("GET", "http://pdp" + HEALTH), due(200, {"status": "ok"})),
+    ("another method", request("POST", HEALTH, {}), NO_GET()),
+    ("the metadata", request("GET", METADATA), due(200, METADATA_DUE)),
+    ("the metadata, with DELETE", request("DELETE", METADATA), NO_GET()),
+    ("an evaluation with GET", request("GET", EVALUATION), NO_POST()),
+    ("an evaluation with HEAD", request("HEAD", EVALUATION), NO_POST(is_head=True)),
+    ("an evaluation with PUT", request("PUT", EVALUATION, GOOD), NO_POST()),
+    ("another path", request("POST", EVALUATION + "/", GOOD), unknown()),
+    ("another case", request("POST", EVALUATION.upper(), GOOD), unknown()),
+    ("the root", request("GET", "/"), unknown()),
+]
+FRAMING = [
+    ("chunks, with an extension and a trailer", request("POST", EVALUATION, b"", ["Transfer-Encoding: chunked"])
+     + chunks(TEXT, 5, 1, 30).replace(b"5\r\n", b"5;a=b\r\n", 1) + b"0\r\nX: y\r\n\r\n", due(200, GOOD_DUE)),
+    ("it waits for 100", request("POST", EVALUATION, GOOD, ["Expect: 100-continue"]), b"HTTP/1.1 100 Continue\r\n\r\n" + due(200, GOOD_DUE)),
+    ("blank lines before a request", b"\r\n" + request("GET", HEALTH), due(200, {"status": "ok"})),
+    ("the older HTTP, kept alive", request("GET", HEALTH, None, ["Connection: keep-alive"], "1.0", None),
+     due(200, {"status": "ok"}, version="1.0", connection="keep-alive")),
+    ("as large a body as may be", request("POST", EVALUATION, TEXT + b" " * (4096 - len(TEXT))), due(200, GOOD_DUE)),
+]
+CUT = ("cut within", request("POST", EVALUATION, GOOD)[:-9], refused(400))
+
+# Each alone behind a good request, since it ends its connection.
+LAST = [
+    CUT,
+    ("cut within a head", request("POST", EVALUATION, GOOD)[:40], refused(400)),
+    ("nothing more", b"", b""),
+    ("too large a body", request("POST", EVALUATION, TEXT + b" " * (4097 - len(TEXT))), refused(413)),
+    ("too large in chunks", request("POST", EVALUATION, b"", ["Transfer-Encoding: chunked"]) + chunks(b" " * 5000, 4000) + b"0\r\n\r\n", refused(413)),
+    ("no HTTP", b"hello\r\n\r\n", refused(400)),
+    ("no host", request("GET", HEALTH, host=None), refused(400)),
+    ("no such host", request("GET", HEALTH, host="a b"), refused(400)),
+    ("two lengths", request("POST", EVALUATION, GOOD, ["Content-Length: 1"]), refused(400)),
+    ("another coding", request("POST", EVALUATION, b"", ["Transfer-Encoding: gzip, chunked"]) + b"0\r\n\r\n", refused(501)),
+    ("a head that is too long", request("GET", HEALTH, None, ["A: " + "a" * 17000]), refused(431)),
+    ("too many fields", request("GET", HEALTH, None, [f"A{n}: 1" for n in range(70)]), refused(431)),
+    ("it asks to close", request("POST", EVALUATION, GOOD, ["Connection: close"]), due(200, GOOD_DUE, connection="close")),
+    ("it asks to close, and is denied", request("POST", EVALUATION, evaluation(BOB, "read", PLAN), ["Connection: close"]), due(200, BAD_DUE, connection="close")),
+    ("the older HTTP", request("GET", HEALTH, version="1.0", host=None), due(200, {"status": "ok"}, version="1.0", connection="close")),
+]
+
+
+def interleaved():
+    """All but the last, in an order that sets good, bad and other ones beside each other."""
+    groups = [list(it) for it in (DECISIONS, WRONG, ENDPOINTS, IDS, CEDAR, FRAMING, SEVERAL)]
+    out = []
+    while any(groups):
+        for group in groups:
+            out += [group.pop(0)] if group else []
+    return out
+
+
+def conversation():
+    rows = [*interleaved(), CUT]
+    return rows, b"".join(it[1] for it in rows), b"".join(it[2] for it in rows)
+
+
+# ---- against a program
+
+def options():
+    with open(f"{CRATE}/args", encoding="utf-8") as it:
+        return it.read().split("\n")[:-1]
+
+
+def answer(program, pieces):
+    """What the program answers to these bytes, each piece written by itself."""
+    with subprocess.Popen([program, *options()], cwd=f"{CRATE}/data", stdin=subprocess.PIPE, stdout=subprocess.PIPE) as it:
+        reader = threading.Thread(target=lambda: out.append(it.stdout.read()))
+        out = []
+        reader.start()
+        try:
+            for piece in pieces:
+                it.stdin.write(piece)
+                it.stdin.flush()
+            it.stdin.close()
+        except BrokenPipeError:
+            pass
+        reader.join()
+    return out[0], it.returncode
+
+
+def run(program):
+    rows, sent, wanted = conversation()
+    faults = []
+
+    def check(what, pieces, wanted):
+        got, status = answer(program, pieces)
+        if (got, status) != (wanted, 0):
+            at = next((n for n, (a, b) in enumerate(zip(got, wanted)) if a != b), min(len(got), len(wanted)))
+            faults.append(f"{what}: status {status}, at byte {at}: {got[at - 60:at + 60]!r} instead of {wanted[at - 60:at + 60]!r}")
+
+    for name, data in (("stdin", sent), ("stdout", wanted)):
+        with open(f"{CRATE}/{name}", "rb") as it:
+            if it.read() != data:
+                faults.append(f"crates/cedar_serve/{name} is not what `write` writes")
+    check("the conversation", [sent], wanted)
+    random.seed(71)
+    for _ in range(3):
+        cuts = sorted(random.sample(range(len(sent)), 200))
+        check("the same in pieces", [sent[a:b] for a, b in zip([0, *cuts], [*cuts, len(sent)])], wanted)
+    for what, last, ends in LAST:
+        check(what, [request("POST", EVALUATION, GOOD) + last], due(200, GOOD_DUE) + ends)
+    for fault in faults:
+        print("FAILED:", fault)
+    print(f"conversations: {len(rows)} requests in one, {len(LAST)} that end one, {len(faults)} failed")
+    return 1 if faults else 0
+
+
+def main():
+    if sys.argv[1:] == ["write"]:
+        for name, data in zip(("stdin", "stdout"), conversation()[1:]):
+            with open(f"{CRATE}/{name}", "wb") as it:
+                it.write(data)
+        return 0
+    if len(sys.argv) == 3 and sys.argv[1] == "run":
+        return run(os.path.realpath(sys.argv[2]))
+    print(__doc__)
+    return 2
+
+
+if __name__ == "__main__":
+    sys.exit(main())

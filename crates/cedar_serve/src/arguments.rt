@@ -1,0 +1,73 @@
+//! The options.
+use crate::refusal::{Refusal, refuse_with_line};
+use clap::builder::ValueParser;
+use clap::error::ErrorKind;
+use clap::{Arg, ArgAction, ArgMatches, Command, Error};
+use std::alloc::{AllocError, Global};
+
+/// What the options say.
+#[derive(Clone, Copy)]
+pub(crate) struct Options<'a> {
+    /// The name of the file of policies.
+    pub(crate) policies: &'a str,
+    /// The name of the file of entities.
+    pub(crate) entities: &'a str,
+    /// Where the service is on the network, if that is to be told.
+    pub(crate) url: Option<&'a str>,
+    /// How many bytes the body of a request may have, if that is said.
+    pub(crate) max_body: Option<usize>,
+}
+
+/// The command line.
+pub(crate) fn command<'a>(alloc: Global) -> Result<Command<'a>, AllocError> {
+    let url = "Where the service is, as https://pdp.example.com, for AuthZEN's metadata";
+    let max_body = "How many bytes a body may have; left out, 1,048,576";
+    Command::new(alloc, "cedar_serve")
+        .bin_name("cedar_serve")?
+        .about("Serves Cedar's decisions over HTTP: one connection, on standard input and output")
+        .arg(file(alloc, "policies", "The policies, in Cedar's text"))?
+        .arg(file(alloc, "entities", "The entities, in Cedar's JSON"))?
+        .arg(option(alloc, "url", "URL", url))?
+        .arg(option(alloc, "max-body", "BYTES", max_body).value_parser(ValueParser::Unsigned(
+            0,
+            1_000_000_000,
+        )))
+}
+
+// An option with a value.
+fn option<'a>(alloc: Global, name: &'a str, value: &'a str, help: &'a str) -> Arg<'a> {
+    Arg::new(alloc, name)
+        .long(name)
+        .action(ArgAction::Set)
+        .value_name(value)
+        .help(help)
+}
+
+// An option that names a file, and must be given.
+fn file<'a>(alloc: Global, name: &'a str, help: &'a str) -> Arg<'a> {
+    option(alloc, name, "FILE", help).required(true)
+}
+
+/// What the options say.
+pub(crate) fn options_of<'a>(matches: &ArgMatches<'a>) -> Options<'a> {
+    Options {
+        policies: matches.get_str("policies").unwrap_or(""),
+        entities: matches.get_str("entities").unwrap_or(""),
+        url: matches.get_str("url"),
+        max_body: matches.get_one::<usize>("max-body"),
+    }
+}
+
+/// The help that is asked for; a mistake in the words is refused.
+#[cold]
+pub(crate) fn text_of_help(alloc: Global, error: &Error) -> Result<String, Refusal> {
+    if error.kind() == ErrorKind::OutOfMemory {
+        return Err(Refusal::Memory);
+    }
+    let text = format!(in alloc; "{error}")?;
+    if error.use_stderr() {
+        Err(Refusal::Told(text))
+    } else {
+        Ok(text)
+    }
+}

@@ -1,0 +1,27 @@
+//! Files.
+use crate::refusal::{Refusal, refuse_with_line};
+use std::alloc::Global;
+use std::rt::Files;
+use std::{fs, io};
+
+/// The text of the file. Refuses one that is absent, that can't be read, or that is not UTF-8.
+pub(crate) fn file_text<R: Files + AllocGlobal>(rt: &R, name: &str) -> Result<String, Refusal> {
+    match fs::read_to_string(rt, name) {
+        Ok(text) => Ok(text),
+        Err(error) => Err(unread(rt.alloc(), name, &error)),
+    }
+}
+
+#[cold]
+fn unread(alloc: Global, name: &str, error: &io::Error) -> Refusal {
+    match error.kind() {
+        io::ErrorKind::OutOfMemory => Refusal::Memory,
+        io::ErrorKind::NotFound => {
+            refuse_with_line(alloc, format!(in alloc; "{name}: no such file"))
+        }
+        io::ErrorKind::InvalidData => {
+            refuse_with_line(alloc, format!(in alloc; "{name}: not UTF-8"))
+        }
+        _ => refuse_with_line(alloc, format!(in alloc; "{name}: {error}")),
+    }
+}

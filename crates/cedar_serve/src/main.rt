@@ -1,0 +1,166 @@
+//! Cedar's decisions over HTTP, as a program: it reads policies and entities once from files, and serves one connection
+//! on standard input and output, as `socat`, systemd or inetd starts it. `docs/SERVING.md` describes it.
+//!
+//! - `main`: reads the words of the command line and the files, serves, and ends with a status: 0 where the connection is
+//!   done, `REFUSED` where there is none or it breaks, and `OUT_OF_MEMORY`.
+//! - `arguments`: the options. `files`: the files that they name. `serving`: `serve_texts`, the connection from the two
+//!   texts on. `metadata`: where the endpoints are. `reasons`, `refusal`, `visible`: why there is no connection, as it is
+//!   told on standard error.
+//!
+//! The promise, of `serve_texts`: what is sent is the answers that are due to the requests received, in their order,
+//! where decisions are those of the policies and the entities that the two texts say (`IsServedFrom` in
+//! `specs/Connections`); or nothing is read and nothing sent, for what is wrong with the texts.
+#![tactic(auto)]
+
+mod arguments;
+mod files;
+mod metadata;
+mod reasons;
+mod refusal;
+mod serving;
+mod visible;
+
+use arguments::{Options, command, options_of, text_of_help};
+use files::file_text;
+use http_server::{Config, State};
+use reasons::refuse_texts;
+use refusal::{Refusal, refuse_with_line};
+use serving::{Stopped, Texts, serve_texts};
+use std::alloc::Global;
+use std::env::Env;
+use std::hash::RandomState;
+use std::io::BufWriter;
+use std::process::ExitCode;
+use std::random::RandomSource;
+use std::rt::Files;
+use std::{env, io};
+
+/// The connection is done, or help was printed.
+pub const DONE: u8 = 0;
+/// Nothing is served, or the connection broke.
+pub const REFUSED: u8 = 1;
+/// Out of memory.
+pub const OUT_OF_MEMORY: u8 = 3;
+
+fn main(rt: HostRuntime) -> ExitCode {
+    ExitCode::from(run(&rt))
+}
+
+// Serves as the arguments say, and answers the exit status.
+fn run<R: Env + Files + Input + AllocGlobal + Print + Eprint + RandomSource>(rt: &R) -> u8 {
+    match serve_words(rt) {
+        Ok(()) => DONE,
+        Err(Refusal::Told(line)) => {
+            drop(rt.eprint(line.as_str()));
+            REFUSED
+        }
+        Err(Refusal::Memory) => {
+            drop(rt.eprint("out of memory\n"));
+            OUT_OF_MEMORY
+        }
+    }
+}
+
+fn serve_words<R: Env + Files + Input + AllocGlobal + Print + RandomSource>(
+    rt: &R,
+) -> Result<(), Refusal> {
+    let words = words(rt)?;
+    let command = command(rt.alloc())?;
+    match command.try_get_matches_from(words.as_slice()) {
+        Ok(matches) => serve_files(rt, options_of(&matches)),
+        Err(error) => print_help(rt, text_of_help(rt.alloc(), &error)?.as_str()),
+    }
+}
+
+fn words<R: Env + AllocGlobal>(rt: &R) -> Result<Vec<String>, Refusal> {
+    match words_given(rt) {
+        Ok(words) => Ok(words),
+        Err(error) => Err(refuse_unread(rt.alloc(), &error)),
+    }
+}
+
+fn words_given<R: Env + AllocGlobal>(rt: &R) -> io::Result<Vec<String>> {
+    let mut words: Vec<String> = Vec::new(rt.alloc());
+    for word in env::args(rt)? {
+        words.push(word)?;
+    }
+    Ok(words)
+}
+
+#[cold]
+fn refuse_unread(alloc: Global, error: &io::Error) -> Refusal {
+    match error.kind() {
+        io::ErrorKind::OutOfMemory => Refusal::Memory,
+        io::ErrorKind::InvalidData => {
+            refuse_with_line(alloc, String::from_str(alloc, "an argument is not UTF-8"))
+        }
+        _ => refuse_with_line(
+            alloc,
+            format!(in alloc; "the arguments can't be read: {error}"),
+        ),
+    }
+}
+
+fn print_help<R: AllocGlobal + Print>(rt: &R, text: &str) -> Result<(), Refusal> {
+    match rt.print(text) {
+        Ok(()) => Ok(()),
+        Err(error) => Err(refuse_broken(rt.alloc(), &error)),
+    }
+}
+
+// Serves one connection over the texts of the files.
+fn serve_files<R: Files + Input + AllocGlobal + Print + RandomSource>(
+    rt: &R,
+    options: Options<'_>,
+) -> Result<(), Refusal> {
+    let policies = file_text(rt, options.policies)?;
+    let entities = file_text(rt, options.entities)?;
+    let texts = Texts {
+        policies: policies.as_str(),
+        entities: entities.as_str(),
+        url: options.url,
+    };
+    match serve_host(rt, config(options.max_body), texts) {
+        Ok(State::Aborted) => Err(Refusal::Memory),
+        Ok(_) => Ok(()),
+        Err(Stopped::NotStarted(reason)) => {
+            Err(refuse_texts(rt.alloc(), &options, &texts, &reason))
+        }
+        Err(Stopped::Broken(error)) => Err(refuse_broken(rt.alloc(), &error)),
+    }
+}
+
+// How long a body may be; all else is as `http_server` has it.
+fn config(max_body: Option<usize>) -> Config {
+    let default = Config::default();
+    Config {
+        max_body_len: max_body.unwrap_or(default.max_body_len),
+        ..default
+    }
+}
+
+// Over standard input and output, which is written through a buffer.
+fn serve_host<R: Input + AllocGlobal + Print + RandomSource>(
+    rt: &R,
+    config: Config,
+    texts: Texts<'_>,
+) -> Result<State, Stopped> {
+    let keys = RandomState::new(rt)?;
+    let mut writer = BufWriter::new(rt.alloc(), io::writer(rt))?;
+    serve_texts(
+        rt.alloc(),
+        keys,
+        config,
+        texts,
+        &mut rt.reader(),
+        &mut writer,
+    )
+}
+
+#[cold]
+fn refuse_broken(alloc: Global, error: &io::Error) -> Refusal {
+    match error.kind() {
+        io::ErrorKind::OutOfMemory => Refusal::Memory,
+        _ => refuse_with_line(alloc, format!(in alloc; "the connection broke: {error}")),
+    }
+}

@@ -1,0 +1,135 @@
+//! One connection, from the texts of policies and entities on.
+ghost use Rattle.std.specs.Prelude.{◌≡◌, option_map};
+ghost use Rattle.std.specs.Io.KnownBytes.{Appends, Consumes};
+ghost use Rattle.cedar_service.specs.Started.{IsNotStarted};
+ghost use Rattle.cedar_serve.specs.Connections.{IsServedFrom, IfServed, IfNotStarted};
+ghost use Rattle.cedar_serve.specs.declared.serving.Stopped.TheVariants as stopped;
+
+use crate::metadata::metadata_of;
+use cedar_endpoints::Decisions;
+use cedar_service::{Engine, NotStarted, serve_decisions};
+use http_server::{Config, Connection, State};
+use std::alloc::{AllocError, Global};
+use std::hash::RandomState;
+use std::io;
+use std::io::{Read, Write};
+
+/// What decides, as texts.
+#[derive(Clone, Copy)]
+pub struct Texts<'a> {
+    /// The policies, in Cedar's text.
+    pub policies: &'a str,
+    /// The entities, in Cedar's JSON.
+    pub entities: &'a str,
+    /// Where the service is on the network, if that is to be told.
+    pub url: Option<&'a str>,
+}
+
+/// Why a connection was not served to its end.
+#[derive(Debug, Drop)]
+pub enum Stopped {
+    /// Of the texts no engine is made. Nothing was read or written.
+    NotStarted(NotStarted),
+    /// The reader or the writer failed.
+    Broken(io::Error),
+}
+
+impl From<io::Error> for Stopped {
+    ghost from_gives = { λ e result. result ≡ stopped.Broken e };
+
+    fn from(error: io::Error) -> Stopped {
+        Stopped::Broken(error)
+    }
+}
+
+/// Reads, answers and writes until the connection is done, and answers how it ended. What is written is the answers
+/// that are due to the requests read, in their order: where a request asks for a decision, that of the policies and the
+/// entities that the texts say. Where the texts are wrong nothing is read and nothing written. `keys` keeps strangers
+/// from choosing header fields that collide.
+pub fn serve_texts<R: Read, W: Write>(
+    alloc: Global,
+    keys: RandomState,
+    config: Config,
+    texts: Texts<'_>,
+    reader: &mut R,
+    writer: &mut W,
+) -> Result<State, Stopped>
+    ensures served { IfServed (λ h.
+        IsServedFrom texts.entry.policies.now texts.entry.entities.now (option_map (λ u. u.now) texts.entry.url) config h
+        × Consumes (R.remaining reader.old) (R.remaining reader.new) h.received
+        × Appends (W.contents writer.old) (W.contents writer.new) h.sent) result }
+    ensures refused { IfNotStarted (IsNotStarted texts.entry.policies.now texts.entry.entities.now) result }
+    ensures unread { IfNotStarted (λ e. reader.new ≡ reader.old) result }
+    ensures unwritten { IfNotStarted (λ e. writer.new ≡ writer.old) result }
+{
+    match service_of(alloc, texts) {
+        Ok(service) => serve_with(alloc, keys, config, service, reader, writer),
+        Err(reason) => Err(Stopped::NotStarted(reason)),
+    }
+}
+
+ghost use Rattle.std.specs.Prelude.{IfOk, IfErr, OnErr, ⊤, string_bytes};
+ghost use Rattle.cedar_service.specs.Started.{IsEngineOf};
+ghost use Rattle.cedar_serve.specs.Connections.{IsServedBy};
+ghost use Rattle.cedar_serve.specs.Metadata.{metadata_text};
+
+// The service of the engine that the texts make.
+fn service_of(alloc: Global, texts: Texts<'_>) -> Result<Decisions<Engine>, NotStarted>
+    ensures engine { IfOk result (λ s. IsEngineOf texts.entry.policies.now texts.entry.entities.now s.decider) }
+    ensures metadata { IfOk result (λ s.
+        option_map string_bytes s.metadata ≡ option_map metadata_text (option_map (λ u. u.now) texts.entry.url)) }
+    ensures refused { IfErr result (IsNotStarted texts.entry.policies.now texts.entry.entities.now) }
+{
+    match Engine::of_texts(alloc, texts.policies, texts.entities) {
+        Ok(engine) => with_metadata(alloc, engine, texts.url),
+        Err(reason) => Err(reason),
+    }
+}
+
+fn with_metadata(
+    alloc: Global,
+    engine: Engine,
+    url: Option<&str>,
+) -> Result<Decisions<Engine>, NotStarted>
+    ensures engine { IfOk result (λ s. s.decider ≡ engine) }
+    ensures metadata { IfOk result (λ s.
+        option_map string_bytes s.metadata ≡ option_map metadata_text (option_map (λ u. u.now) url.entry)) }
+    ensures memory { IfErr result (λ e. e ≡ NotStarted.Memory) }
+{
+    match metadata_of(alloc, url) {
+        Ok(metadata) => Ok(Decisions {
+            alloc,
+            decider: engine,
+            metadata,
+        }),
+        Err(AllocError) => {
+            drop(engine);
+            Err(NotStarted::Memory)
+        }
+    }
+}
+
+fn serve_with<R: Read, W: Write>(
+    alloc: Global,
+    keys: RandomState,
+    config: Config,
+    service: Decisions<Engine>,
+    reader: &mut R,
+    writer: &mut W,
+) -> Result<State, Stopped>
+    ensures served { IfServed (λ h. IsServedBy service config h
+        × Consumes (R.remaining reader.old) (R.remaining reader.new) h.received
+        × Appends (W.contents writer.old) (W.contents writer.new) h.sent) result }
+    ensures started { IfNotStarted (λ e. ⊥) result }
+{
+    let mut connection = Connection::new(alloc, keys, config);
+    let mut service = service;
+    let ended = serve_decisions(&mut service, &mut connection, reader, writer);
+    let state = connection.state();
+    drop(connection);
+    drop(service);
+    match ended {
+        Ok(()) => Ok(state),
+        Err(error) => Err(Stopped::Broken(error)),
+    }
+}
