@@ -6,6 +6,7 @@
 //! - `hours`: a function that policies call: whether the service is open at an hour.
 //! - `requests`, `reading`, `report`: the requests, what is in a value, and what is printed. `stop`: why the service
 //!   stops.
+//! - `sought`: who may do something, what with, and what may be done: what is permitted, whole and page by page.
 //! - `stages`: a decision in two stages, as a caller of the headline: first without who asks, then for each user.
 //!
 //! The promise: the stored function answers what it says (clauses `computes`, `lawful` of `is_open`; `is_open_of` in
@@ -24,6 +25,7 @@ mod policies;
 mod reading;
 mod report;
 mod requests;
+mod sought;
 mod stages;
 mod stop;
 
@@ -31,6 +33,7 @@ use cedar_policy_core::ast::{
     CallStyle, Extension, ExtensionFunction, ExtensionFunctionObject, ExtensionOutputValue,
     PolicySet, Type, Value,
 };
+use cedar_policy_core::authorizer::Authorizer;
 use cedar_policy_core::entities::Entities;
 use cedar_policy_core::evaluator::EvaluationError;
 use cedar_policy_core::extensions::Extensions;
@@ -133,6 +136,20 @@ fn print_lines<W: Write>(
     }
     for asked in &requests::STAGED {
         report::print_in_stages(alloc, asked, out)?;
+    }
+    print_permitted(alloc, entities, policies, extensions, out)
+}
+
+fn print_permitted<W: Write>(
+    alloc: Global,
+    entities: &Entities,
+    policies: &PolicySet,
+    extensions: &Extensions<'_>,
+    out: &mut W,
+) -> Result<(), Stop> {
+    let authorizer = Authorizer::new(extensions, sought::LIMIT);
+    for sought in &sought::SOUGHT {
+        sought::print_sought(alloc, sought, policies, entities, &authorizer, out)?;
     }
     Ok(())
 }

@@ -1,0 +1,4 @@
+pub mod Kept
+pub mod Questions
+pub mod Found
+pub mod Pages
