@@ -1,0 +1,15 @@
+pub mod Paths
+pub mod Refusals
+pub mod Words
+pub mod Numbers
+pub mod Shapes
+pub mod Names
+pub mod Leaves
+pub mod Expressions
+pub mod Bounds
+pub mod Scopes
+pub mod Policies
+pub mod Annotations
+pub mod Lists
+pub mod JsonTexts
+pub mod ErrorTexts
