@@ -1,9 +1,12 @@
 mod Positions
 mod Alone
+mod Batching
 mod Composed
 mod Known
 mod Exact
 mod Lines
+mod Unbroken
+mod Lined
 mod Naming
 mod Words
 mod Reasoned

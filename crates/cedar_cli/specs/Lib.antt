@@ -6,6 +6,7 @@ pub mod Visible
 pub mod Named
 pub mod Documents
 pub mod Authorized
+pub mod Batch
 pub mod Steps
 pub mod Reasons
 pub mod Stages

@@ -97,6 +97,17 @@ fn request_json<'a>(alloc: Global) -> Result<Arg<'a>, AllocError> {
         .conflicts_with("context")
 }
 
+fn requests<'a>(alloc: Global) -> Result<Arg<'a>, AllocError> {
+    let help =
+        "Many requests, each a line of JSON as --request-json has it; a line of JSON is printed of each";
+    option(alloc, "requests", "FILE", help)
+        .conflicts_with("principal")?
+        .conflicts_with("action")?
+        .conflicts_with("resource")?
+        .conflicts_with("context")?
+        .conflicts_with("request-json")
+}
+
 fn authorize<'a>(alloc: Global) -> Result<Command<'a>, AllocError> {
     let verbose = flag(alloc, "verbose", "Prints the policies that decided too").short('v');
     let command = Command::new(alloc, "authorize")
@@ -104,6 +115,7 @@ fn authorize<'a>(alloc: Global) -> Result<Command<'a>, AllocError> {
         .arg(policies(alloc))?
         .arg(error_handling(alloc))?
         .arg(limit(alloc))?
+        .arg(requests(alloc)?)?
         .arg(verbose)?
         .arg(json(alloc))?;
     with_request(alloc, command)

@@ -211,7 +211,7 @@ fn authorize_over_given_store(
     printed
 }
 
-fn authorize_over_store(
+pub(crate) fn authorize_over_store(
     alloc: Global,
     deciding: Deciding<'_>,
     entities: &Entities,

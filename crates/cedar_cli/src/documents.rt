@@ -200,7 +200,7 @@ fn step_files(alloc: Global, step: Step<'_>) -> Result<JsonValue, AllocError>
     Ok(JsonValue::Object(files))
 }
 
-fn put_text(
+pub(crate) fn put_text(
     alloc: Global,
     key: &str,
     text: &str,
@@ -439,7 +439,7 @@ fn put_place(
     }
 }
 
-fn number(count: usize) -> JsonValue
+pub(crate) fn number(count: usize) -> JsonValue
     ensures { json_view result ≡ count_json count }
 {
     match i64::try_from(count) {

@@ -12,7 +12,13 @@ const INPUT: &str = "-";
 const INPUT_NAME: &str = "standard input";
 
 // The options that name one file.
-const FILE_OPTIONS: [&str; 4] = ["policies", "context", "request-json", "entities"];
+const FILE_OPTIONS: [&str; 5] = [
+    "policies",
+    "context",
+    "request-json",
+    "requests",
+    "entities",
+];
 
 /// A file's name, and its text.
 #[derive(Drop)]
@@ -34,6 +40,7 @@ pub(crate) struct Texts {
     policies: Option<File>,
     context: Option<File>,
     request: Option<File>,
+    requests: Option<File>,
     entities: Option<File>,
     steps: Vec<StepFiles>,
 }
@@ -48,12 +55,14 @@ impl Texts {
         let policies = text_of(rt, matches.get_str("policies"))?;
         let context = text_of(rt, matches.get_str("context"))?;
         let request = text_of(rt, matches.get_str("request-json"))?;
+        let requests = text_of(rt, matches.get_str("requests"))?;
         let entities = text_of(rt, matches.get_str("entities"))?;
         let steps = step_files(rt, matches)?;
         Ok(Texts {
             policies,
             context,
             request,
+            requests,
             entities,
             steps,
         })
@@ -78,6 +87,14 @@ impl Texts {
     /// The whole request, if its file is named.
     pub(crate) fn request(&self) -> Option<Source<'_>> {
         source(&self.request)
+    }
+
+    /// The lines of requests, if their file is named.
+    pub(crate) fn requests(&self) -> Option<&str> {
+        match &self.requests {
+            Some(file) => Some(file.text.as_str()),
+            None => None,
+        }
     }
 
     /// The entities, if their file is named.

@@ -6,14 +6,15 @@
 //!   `answer_command`, which takes the words of a command line.
 //! - `asked`, `policies`, `stores`, `ancestors`, `reading`, `limits`: what is asked, and the policies, entities,
 //!   requests and limits.
-//! - `decisions`, `partial`, `stages`, `steps`, `left`, `evaluations`: what is answered. `documents`, `readable`:
-//!   answers as JSON.
+//! - `decisions`, `partial`, `stages`, `steps`, `left`, `evaluations`: what is answered. `batch`: what is answered to
+//!   many requests, a line each. `documents`, `readable`: answers as JSON.
 //! - `refusal`, `faults`, `places`, `visible`, `warnings`, `undecided`: why a question is not answered, and where; what
 //!   is told beside an answer.
 //!
 //! The promise, from the texts and the options on: what `authorize` prints is the decision on the policies, the
 //! entities and the request that the texts say (`specs/Authorized`, over `Questions` and `Standard`), and it refuses
-//! for the reasons of `specs/Reasons` alone; `partially_authorize` prints the decisions of a chain of steps, of which
+//! for the reasons of `specs/Reasons` alone; `authorize_each` prints a line for each of many requests, which is what
+//! `authorize` prints of it alone (`specs/Batch`); `partially_authorize` prints the decisions of a chain of steps, of which
 //! the last has the headline (`specs/Stages`, over `Steps`), and refuses for those of `specs/Stopped`; what
 //! `evaluate_expression` prints is the value (`specs/Evaluated`, `Visible`), and `format_policies` keeps tokens and
 //! comments. Words and statuses go by `specs/Printing`, policies' names by `specs/Named`, what is printed as JSON by
@@ -23,6 +24,7 @@
 
 mod ancestors;
 mod asked;
+mod batch;
 mod commands;
 mod decisions;
 mod documents;
@@ -46,6 +48,7 @@ mod visible;
 mod warnings;
 
 pub use asked::{Asked, Source, Step, Way};
+pub use batch::authorize_each;
 pub use cedar_policy_core::authorizer::{Decision, ErrorHandling};
 pub use decisions::{Printed, authorize, status_of};
 pub use evaluations::evaluate_expression;

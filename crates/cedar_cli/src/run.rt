@@ -1,4 +1,5 @@
 //! Runs a command.
+use crate::batch::authorize_each;
 use crate::commands::cedar;
 use crate::files::Texts;
 use crate::{
@@ -101,6 +102,10 @@ fn run_with(
 ) -> Result<Printed, Refusal> {
     let policies = texts.policies();
     let asked = read_question(matches, texts);
+    // `authorize` alone takes these.
+    if let Some(requests) = texts.requests() {
+        return authorize_each(alloc, policies, &asked, requests, way(matches));
+    }
     match name {
         "authorize" => authorize(alloc, policies, &asked, way(matches)),
         "partially-authorize" => partial(alloc, &asked, matches, texts),
