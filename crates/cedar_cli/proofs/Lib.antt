@@ -16,3 +16,4 @@ mod Opening
 mod Stepping
 mod Halting
 mod Staged
+mod Stating

@@ -34,7 +34,7 @@ right_of : (a b : Bool) → (a && b) ≡ true → b ≡ true
 right_of true b e = e
 right_of false b e = absurd (true≢false (sym e))
 
-both_of : (a b : Bool) → a ≡ true → b ≡ true → (a && b) ≡ true
+pub both_of : (a b : Bool) → a ≡ true → b ≡ true → (a && b) ≡ true
 both_of a b ea eb = ap (λ c. c && b) ea ∙ eb
 
 -- ---- what a calm text has below
@@ -55,7 +55,7 @@ no_word_below text e above below is =
 
 -- ---- what is put together
 
-starts_behind : (xs ys : Text) → starts_calm xs ≡ true → starts_calm ys ≡ true → starts_calm (xs ++ ys) ≡ true
+pub starts_behind : (xs ys : Text) → starts_calm xs ≡ true → starts_calm ys ≡ true → starts_calm (xs ++ ys) ≡ true
 starts_behind [] ys ex ey = ey
 starts_behind (x ∷ xs) ys ex ey = ex
 
@@ -63,7 +63,7 @@ or_kept : (a b c : Bool) → (a || b) ≡ true → (b ≡ true → c ≡ true) �
 or_kept true b c e f = refl
 or_kept false b c e f = f e
 
-calm_behind : (xs ys : Text) → is_calm xs ≡ true → is_calm ys ≡ true → starts_calm ys ≡ true
+pub calm_behind : (xs ys : Text) → is_calm xs ≡ true → is_calm ys ≡ true → starts_calm ys ≡ true
     → is_calm (xs ++ ys) ≡ true
 calm_behind [] ys ex ey es = ey
 calm_behind (x ∷ xs) ys ex ey es =
@@ -76,13 +76,13 @@ or_left : (a b : Bool) → a ≡ true → (a || b) ≡ true
 or_left a b e = ap (λ c. c || b) e
 
 -- a text without a line's end, and the end of its line
-line_ends : (xs : Text) → has_no_feed xs ≡ true → is_calm (xs ++ codes "\n") ≡ true
+pub line_ends : (xs : Text) → has_no_feed xs ≡ true → is_calm (xs ++ codes "\n") ≡ true
 line_ends [] e = refl
 line_ends (x ∷ xs) e =
     both_of _ _ (or_left _ (starts_calm (xs ++ codes "\n")) (left_of _ (has_no_feed xs) e))
     (line_ends xs (right_of (not (x == 10)) (has_no_feed xs) e))
 
-feedless_behind : (xs ys : Text) → has_no_feed xs ≡ true → has_no_feed ys ≡ true → has_no_feed (xs ++ ys) ≡ true
+pub feedless_behind : (xs ys : Text) → has_no_feed xs ≡ true → has_no_feed ys ≡ true → has_no_feed (xs ++ ys) ≡ true
 feedless_behind [] ys ex ey = ey
 feedless_behind (x ∷ xs) ys ex ey =
     both_of _ _ (left_of _ (has_no_feed xs) ex)
@@ -97,7 +97,7 @@ no_feed n h = by (n == 10) refl
     by true e = absurd (h (eqb-true n 10 e))
     by false e = refl
 
-digit_feedless : (d : ℕ) → not (digit_glyph false d == 10) ≡ true
+pub digit_feedless : (d : ℕ) → not (digit_glyph false d == 10) ≡ true
 digit_feedless d = by (nat_lt d 10)
   where
     by : (b : Bool) → not ((if b then 48 + d else 87 + d) == 10) ≡ true
@@ -151,7 +151,7 @@ character_feedless c = by (is_hidden c) refl
     by true e = feedless_behind (digits_onto 64 16 false c []) (codes "}") (digits_feedless 64 c [] refl) refl
     by false e = bytes_feedless c (λ h. true≢false (sym (ap is_hidden h) ∙ e))
 
-told_feedless : (text told : Text) → IsVisible text told → has_no_feed told ≡ true
+pub told_feedless : (text told : Text) → IsVisible text told → has_no_feed told ≡ true
 told_feedless text told nothing_told = refl
 told_feedless text told (character_told c {told = rest} more) =
     feedless_behind (told_character c) rest (character_feedless c) (told_feedless _ rest more)

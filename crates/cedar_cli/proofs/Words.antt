@@ -25,7 +25,7 @@ abbrev begins_with_d : Text → Bool
 begins_with_d t = nat_eq (get_or t 0 0) 68
 
 -- a word that stands first is the decision's
-word_tells : (d e : model.Decision) (lines rest : Text) → word d ++ (codes "\n" ++ lines) ≡ word e ++ rest → d ≡ e
+pub word_tells : (d e : model.Decision) (lines rest : Text) → word d ++ (codes "\n" ++ lines) ≡ word e ++ rest → d ≡ e
 word_tells allow allow lines rest h = refl
 word_tells deny deny lines rest h = refl
 word_tells allow deny lines rest h = absurd (true≢false (sym (ap begins_with_d h)))
@@ -55,7 +55,7 @@ lines_calm true is ps lines are = (ap is_calm are, ap starts_calm are)
 lines_calm false is ps lines (names, are, whole) =
     (ap is_calm whole ∙ calm_names is ps names are, ap starts_calm whole)
 
-reasons_calm : (v : Bool) (ps : List PolicyView) (r : Response) (lines : Text) → AreReasonsIf v ps r lines
+pub reasons_calm : (v : Bool) (ps : List PolicyView) (r : Response) (lines : Text) → AreReasonsIf v ps r lines
     → (is_calm lines ≡ true) × (starts_calm lines ≡ true)
 reasons_calm false ps r lines are = (ap is_calm are, ap starts_calm are)
 reasons_calm true ps r lines are = lines_calm _ _ ps lines are

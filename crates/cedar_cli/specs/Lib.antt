@@ -13,3 +13,5 @@ pub mod Stages
 pub mod Stopped
 pub mod Inputs
 pub mod Evaluated
+pub mod Strict
+pub mod Translated

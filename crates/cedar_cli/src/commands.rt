@@ -6,6 +6,9 @@ use std::alloc::{AllocError, Global};
 /// How policies that err are handled.
 pub(crate) const HANDLINGS: [&str; 2] = ["skip", "forbid"];
 
+// Into what policies are translated.
+const DIRECTIONS: [&str; 1] = ["cedar-to-json"];
+
 // What a step takes.
 const STEP_FILES: [&str; 2] = ["VALUES", "ENTITIES"];
 
@@ -20,7 +23,8 @@ pub(crate) fn cedar<'a>(alloc: Global) -> Result<Command<'a>, AllocError> {
         .subcommand(partially_authorize(alloc)?)?
         .subcommand(evaluate(alloc)?)?
         .subcommand(check_parse(alloc)?)?
-        .subcommand(format(alloc)?)
+        .subcommand(format(alloc)?)?
+        .subcommand(translate(alloc)?)
 }
 
 // An option with a value.
@@ -175,7 +179,25 @@ fn evaluate<'a>(alloc: Global) -> Result<Command<'a>, AllocError> {
 fn check_parse<'a>(alloc: Global) -> Result<Command<'a>, AllocError> {
     Command::new(alloc, "check-parse")
         .about("Whether the policies can be read")
-        .arg(policies(alloc))
+        .arg(policies(alloc))?
+        .arg(flag(alloc, "strict", "Tells the policies that apply in no world"))?
+        .arg(deny_warnings(alloc)?)
+}
+
+fn deny_warnings<'a>(alloc: Global) -> Result<Arg<'a>, AllocError> {
+    let help = "With --strict the status is 1 if a policy is told";
+    flag(alloc, "deny-warnings", help).requires_arg("strict")
+}
+
+fn translate<'a>(alloc: Global) -> Result<Command<'a>, AllocError> {
+    let help = "From what into what; from JSON nothing is read yet";
+    let direction = option(alloc, "direction", "DIRECTION", help)
+        .value_parser(ValueParser::Names(&DIRECTIONS))
+        .required(true);
+    Command::new(alloc, "translate-policy")
+        .about("The policies and templates as Cedar's JSON of policies")
+        .arg(policies(alloc))?
+        .arg(direction)
 }
 
 fn format<'a>(alloc: Global) -> Result<Command<'a>, AllocError> {

@@ -232,8 +232,9 @@ pub(crate) fn authorize_over_store(
     Ok(printed?)
 }
 
-// Nothing is unknown in what is decided here, so that no condition that was read meets the limit of the text.
-fn decide_request(
+/// The response to the request. Nothing is unknown in what is decided here, so that no condition that was read meets the
+/// limit of the text.
+pub(crate) fn decide_request(
     alloc: Global,
     request: Request,
     deciding: Deciding<'_>,
@@ -297,8 +298,8 @@ fn response_as_text(
     printed
 }
 
-// The lines of the policies that determined the decision; none, where they are not asked for.
-fn reason_lines(
+/// The lines of the policies that determined the decision; none, where they are not asked for.
+pub(crate) fn reason_lines(
     alloc: Global,
     deciding: Deciding<'_>,
     response: &Response,

@@ -7,18 +7,21 @@
 //! - `asked`, `policies`, `stores`, `ancestors`, `reading`, `limits`: what is asked, and the policies, entities,
 //!   requests and limits.
 //! - `decisions`, `partial`, `stages`, `steps`, `left`, `evaluations`: what is answered. `batch`: what is answered to
-//!   many requests, a line each. `documents`, `readable`: answers as JSON.
+//!   many requests, a line each. `documents`, `readable`, `translations`: answers, and policies, as JSON. `strictness`:
+//!   what is told of policies that are read.
 //! - `refusal`, `faults`, `places`, `visible`, `warnings`, `undecided`: why a question is not answered, and where; what
 //!   is told beside an answer.
 //!
 //! The promise, from the texts and the options on: what `authorize` prints is the decision on the policies, the
 //! entities and the request that the texts say (`specs/Authorized`, over `Questions` and `Standard`), and it refuses
 //! for the reasons of `specs/Reasons` alone; `authorize_each` prints a line for each of many requests, which is what
-//! `authorize` prints of it alone (`specs/Batch`); `partially_authorize` prints the decisions of a chain of steps, of which
-//! the last has the headline (`specs/Stages`, over `Steps`), and refuses for those of `specs/Stopped`; what
+//! `authorize` prints of it alone (`specs/Batch`); `partially_authorize` prints the decisions of a chain of steps, of
+//! which the last has the headline (`specs/Stages`, over `Steps`), and refuses for those of `specs/Stopped`; what
 //! `evaluate_expression` prints is the value (`specs/Evaluated`, `Visible`), and `format_policies` keeps tokens and
-//! comments. Words and statuses go by `specs/Printing`, policies' names by `specs/Named`, what is printed as JSON by
-//! `specs/Documents`, lines and columns by `specs/Noted`. A refused run has nothing to print by its type (`Answer`).
+//! comments. `check_strictly` tells policies that apply in no world (`specs/Strict`), and `translate_to_json` prints
+//! policies as JSON (`specs/Translated`). Words and statuses go by `specs/Printing`, policies' names by `specs/Named`,
+//! what is printed as JSON by `specs/Documents`, lines and columns by `specs/Noted`. A refused run has nothing to print
+//! by its type (`Answer`).
 //! `docs/COMMANDS.md` describes each command and where these promises end; the rest is tested by `cedar_test_cli`.
 #![tactic(auto)]
 
@@ -43,6 +46,8 @@ mod run;
 mod stages;
 mod steps;
 mod stores;
+mod strictness;
+mod translations;
 mod undecided;
 mod visible;
 mod warnings;
@@ -56,3 +61,5 @@ pub use partial::partially_authorize;
 pub use policies::{check_format, check_policies, format_policies};
 pub use refusal::{Refusal, refuse_with_line};
 pub use run::{Answer, answer_command};
+pub use strictness::check_strictly;
+pub use translations::translate_to_json;

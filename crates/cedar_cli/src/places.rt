@@ -41,7 +41,9 @@ impl<'a> Places<'a> {
     }
 
     /// The name of what the text stands in.
-    pub(crate) fn name(&self) -> &'a str {
+    pub(crate) fn name(&self) -> &'a str
+        ensures { result ≡ self.now.source.name }
+    {
         self.source.name
     }
 

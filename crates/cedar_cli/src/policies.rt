@@ -130,8 +130,11 @@ fn push_others(
     }
 }
 
-// The policies that the text writes, which call standard functions and `unknown` alone.
-fn read_with_unknown(alloc: Global, source: Source<'_>) -> Result<ParsedPolicies, Refusal>
+/// The policies that the text writes, which call standard functions and `unknown` alone.
+pub(crate) fn read_with_unknown(
+    alloc: Global,
+    source: Source<'_>,
+) -> Result<ParsedPolicies, Refusal>
     ensures read { IfOk result (ArePoliciesOf source.entry.text.now) }
     ensures refused { IfErr result (IsToldFor (AreUnread source.entry.text.now)) }
 {

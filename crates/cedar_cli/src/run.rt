@@ -4,7 +4,8 @@ use crate::commands::cedar;
 use crate::files::Texts;
 use crate::{
     Asked, ErrorHandling, Printed, Refusal, Source, Step, Way, authorize, check_format,
-    check_policies, evaluate_expression, format_policies, partially_authorize,
+    check_policies, check_strictly, evaluate_expression, format_policies, partially_authorize,
+    translate_to_json,
 };
 use cedar_policy_core::ast::{Extension, ExtensionFunction, Name};
 use cedar_policy_core::extensions::Extensions;
@@ -113,11 +114,23 @@ fn run_with(
             let is_json = matches.get_flag("json");
             evaluate_expression(alloc, expression(matches), &asked, limit(matches), is_json)
         }
-        "check-parse" => {
-            check_policies(alloc, policies)?;
-            Ok(nothing(alloc))
-        }
+        "check-parse" => check(alloc, policies, matches),
+        "translate-policy" => Ok(printed_alone(alloc, translate_to_json(alloc, policies)?)),
         _ => format(alloc, policies, matches.get_flag("check")),
+    }
+}
+
+// With `--strict` the policies are told that apply in no world.
+fn check(
+    alloc: Global,
+    policies: Source<'_>,
+    matches: &ArgMatches<'_>,
+) -> Result<Printed, Refusal> {
+    if matches.get_flag("strict") {
+        check_strictly(alloc, policies, matches.get_flag("deny-warnings"))
+    } else {
+        check_policies(alloc, policies)?;
+        Ok(nothing(alloc))
     }
 }
 

@@ -1,5 +1,6 @@
 //! What is told on standard error beside an answer.
-ghost use Rattle.std.specs.Prelude.{◌≡◌, ◌+◌, ◌≤◌, IfSome, IfNone};
+ghost use Rattle.std.specs.Prelude.{◌≡◌, ◌+◌, ◌++◌, ◌≤◌, IfSome, IfNone, OnOk, string_bytes};
+ghost use Rattle.cedar_cli.specs.Strict.{IsWarning};
 
 use crate::asked::{Source, Way};
 use crate::limits::push_limit;
@@ -21,10 +22,14 @@ pub(crate) fn push_warning(
     alloc: Global,
     line: &str,
     warnings: &mut String,
-) -> Result<(), AllocError> {
+) -> Result<(), AllocError>
+    ensures { OnOk result ((told : _) × IsWarning line.now told
+        × (string_bytes warnings.new ≡ string_bytes warnings.old ++ told)) }
+{
     warnings.push_str("warning: ")?;
     push_visible(alloc, line, warnings)?;
-    warnings.push_str("\n")
+    warnings.push_str("\n")?;
+    Ok(())
 }
 
 /// The policies that decide, the places of the text that they stand in, and in which way they do.
