@@ -16,4 +16,5 @@ mod Opening
 mod Stepping
 mod Halting
 mod Staged
+mod Explaining
 mod Stating

@@ -13,5 +13,6 @@ pub mod Stages
 pub mod Stopped
 pub mod Inputs
 pub mod Evaluated
+pub mod Explained
 pub mod Strict
 pub mod Translated

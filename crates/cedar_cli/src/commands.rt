@@ -121,8 +121,23 @@ fn authorize<'a>(alloc: Global) -> Result<Command<'a>, AllocError> {
         .arg(limit(alloc))?
         .arg(requests(alloc)?)?
         .arg(verbose)?
-        .arg(json(alloc))?;
+        .arg(json(alloc))?
+        .arg(explain(alloc)?)?
+        .arg(no_values(alloc)?)?;
     with_request(alloc, command)
+}
+
+fn explain<'a>(alloc: Global) -> Result<Arg<'a>, AllocError> {
+    let help = "Prints why too: the parts of each policy that decide it";
+    flag(alloc, "explain", help)
+        .conflicts_with("json")?
+        .conflicts_with("limit")?
+        .conflicts_with("requests")
+}
+
+fn no_values<'a>(alloc: Global) -> Result<Arg<'a>, AllocError> {
+    let help = "Of values that are no booleans, --explain prints only that they are none";
+    flag(alloc, "no-values", help).requires_arg("explain")
 }
 
 fn partially_authorize<'a>(alloc: Global) -> Result<Command<'a>, AllocError> {

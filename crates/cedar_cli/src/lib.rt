@@ -6,9 +6,9 @@
 //!   `answer_command`, which takes the words of a command line.
 //! - `asked`, `policies`, `stores`, `ancestors`, `reading`, `limits`: what is asked, and the policies, entities,
 //!   requests and limits.
-//! - `decisions`, `partial`, `stages`, `steps`, `left`, `evaluations`: what is answered. `batch`: what is answered to
-//!   many requests, a line each. `documents`, `readable`, `translations`: answers, and policies, as JSON. `strictness`:
-//!   what is told of policies that are read.
+//! - `decisions`, `explanations`, `partial`, `stages`, `steps`, `left`, `evaluations`: what is answered. `batch`: what
+//!   is answered to many requests, a line each. `documents`, `readable`, `translations`: answers, and policies, as JSON.
+//!   `strictness`: what is told of policies that are read.
 //! - `refusal`, `faults`, `places`, `visible`, `warnings`, `undecided`: why a question is not answered, and where; what
 //!   is told beside an answer.
 //!
@@ -18,10 +18,10 @@
 //! `authorize` prints of it alone (`specs/Batch`); `partially_authorize` prints the decisions of a chain of steps, of
 //! which the last has the headline (`specs/Stages`, over `Steps`), and refuses for those of `specs/Stopped`; what
 //! `evaluate_expression` prints is the value (`specs/Evaluated`, `Visible`), and `format_policies` keeps tokens and
-//! comments. `check_strictly` tells policies that apply in no world (`specs/Strict`), and `translate_to_json` prints
-//! policies as JSON (`specs/Translated`). Words and statuses go by `specs/Printing`, policies' names by `specs/Named`,
-//! what is printed as JSON by `specs/Documents`, lines and columns by `specs/Noted`. A refused run has nothing to print
-//! by its type (`Answer`).
+//! comments. Below a decision `authorize_and_explain` prints why (`specs/Explained`); `check_strictly` tells policies
+//! that apply in no world (`specs/Strict`), and `translate_to_json` prints policies as JSON (`specs/Translated`). Words
+//! and statuses go by `specs/Printing`, policies' names by `specs/Named`, what is printed as JSON by `specs/Documents`,
+//! lines and columns by `specs/Noted`. A refused run has nothing to print by its type (`Answer`).
 //! `docs/COMMANDS.md` describes each command and where these promises end; the rest is tested by `cedar_test_cli`.
 #![tactic(auto)]
 
@@ -32,6 +32,7 @@ mod commands;
 mod decisions;
 mod documents;
 mod evaluations;
+mod explanations;
 mod faults;
 mod files;
 mod left;
@@ -57,6 +58,7 @@ pub use batch::authorize_each;
 pub use cedar_policy_core::authorizer::{Decision, ErrorHandling};
 pub use decisions::{Printed, authorize, status_of};
 pub use evaluations::evaluate_expression;
+pub use explanations::authorize_and_explain;
 pub use partial::partially_authorize;
 pub use policies::{check_format, check_policies, format_policies};
 pub use refusal::{Refusal, refuse_with_line};

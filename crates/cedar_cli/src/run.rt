@@ -3,9 +3,9 @@ use crate::batch::authorize_each;
 use crate::commands::cedar;
 use crate::files::Texts;
 use crate::{
-    Asked, ErrorHandling, Printed, Refusal, Source, Step, Way, authorize, check_format,
-    check_policies, check_strictly, evaluate_expression, format_policies, partially_authorize,
-    translate_to_json,
+    Asked, ErrorHandling, Printed, Refusal, Source, Step, Way, authorize, authorize_and_explain,
+    check_format, check_policies, check_strictly, evaluate_expression, format_policies,
+    partially_authorize, translate_to_json,
 };
 use cedar_policy_core::ast::{Extension, ExtensionFunction, Name};
 use cedar_policy_core::extensions::Extensions;
@@ -108,7 +108,7 @@ fn run_with(
         return authorize_each(alloc, policies, &asked, requests, way(matches));
     }
     match name {
-        "authorize" => authorize(alloc, policies, &asked, way(matches)),
+        "authorize" => decide(alloc, policies, &asked, matches),
         "partially-authorize" => partial(alloc, &asked, matches, texts),
         "evaluate" => {
             let is_json = matches.get_flag("json");
@@ -117,6 +117,22 @@ fn run_with(
         "check-parse" => check(alloc, policies, matches),
         "translate-policy" => Ok(printed_alone(alloc, translate_to_json(alloc, policies)?)),
         _ => format(alloc, policies, matches.get_flag("check")),
+    }
+}
+
+// With `--explain` also why.
+fn decide(
+    alloc: Global,
+    policies: Source<'_>,
+    asked: &Asked<'_, '_>,
+    matches: &ArgMatches<'_>,
+) -> Result<Printed, Refusal> {
+    let way = way(matches);
+    if matches.get_flag("explain") {
+        let has_values = !matches.get_flag("no-values");
+        authorize_and_explain(alloc, policies, asked, way, has_values)
+    } else {
+        authorize(alloc, policies, asked, way)
     }
 }
 

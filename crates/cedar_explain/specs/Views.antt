@@ -59,7 +59,11 @@ parts_told ps = map part_told ps
 abbrev pub part_place : Part → Option Loc
 part_place p = expr_loc p.expression
 
--- the parts that an explanation names
+-- the parts of an explanation
+abbrev pub explained_parts : Explanation → List Part
+explained_parts x = x.parts.items
+
+-- what it names of them
 abbrev pub named_parts : Explanation → List Told
 named_parts x = parts_told x.parts.items
 

@@ -1,6 +1,6 @@
 //! Explanations: what a policy came to, and the parts that decide it.
 ghost use Rattle.std.specs.Prelude.{◌≡◌};
-ghost use Rattle.cedar_explain.specs.Views.{policy_came, parts_told, named_parts, told_outcome};
+ghost use Rattle.cedar_explain.specs.Views.{policy_came, parts_told, explained_parts, named_parts, told_outcome};
 
 use crate::outcomes::PolicyOutcome;
 use crate::parts::Part;
@@ -23,7 +23,8 @@ impl Explanation {
     /// The parts that decide it: all that are reached, of which each is needed. Where the policy errs, the last of them
     /// does, or is no boolean where one is wanted.
     pub fn parts(&self) -> &[Part]
-        ensures { parts_told result.now ≡ named_parts self.now }
+        ensures told { parts_told result.now ≡ named_parts self.now }
+        ensures whole { result.now ≡ explained_parts self.now }
     {
         &self.parts
     }
