@@ -1,0 +1,5 @@
+mod Kept
+mod Listed
+mod Named
+mod Parts
+mod Values

@@ -1,0 +1,216 @@
+//! What may be known of a request and of the entities of a store, fact by fact.
+ghost use Rattle.std.specs.Prelude.{◌≡◌, [], ◌∷◌, ◌++◌, map, IfOk, OnOk};
+ghost use Rattle.std.specs.Rc.{rc_str_bytes};
+ghost use Rattle.cedar_model.specs.Settings.{names_of};
+ghost use Rattle.cedar_names.specs.Names.{uid_name};
+ghost use Rattle.cedar_layers.specs.Stores.{entity_name, entity_view};
+ghost use Rattle.cedar_reasons.specs.Facts.{fact_view, facts_view, is_principal, is_action, is_resource, is_context};
+ghost use Rattle.cedar_reasons.specs.Facts.{is_absence, is_entity, is_attribute, is_same, is_kept, is_one_of, every_fact};
+ghost use Rattle.cedar_reasons.specs.Facts.{facts_of_entity, of_attribute, no_entity_facts};
+
+use cedar_fallible::add_last;
+use cedar_layers::expressions::EntityUID;
+use cedar_layers::policies::Entity;
+use std::alloc::{AllocError, Global};
+use std::rc::RcStr;
+
+/// A fact of a request and a store.
+#[derive(Clone, Copy)]
+pub enum Fact<'x> {
+    /// Who asks.
+    Principal,
+    /// What is to be done.
+    Action,
+    /// What it is to be done with.
+    Resource,
+    /// The context: its names, and their values.
+    Context,
+    /// That there is no entity but those of the store.
+    NoOtherEntity,
+    /// That the entity is as it is stored: its ancestors, its tags, and the names of its attributes.
+    Entity(&'x EntityUID),
+    /// The value of the entity's attribute of this name.
+    Attribute(&'x EntityUID, &'x RcStr),
+}
+
+/// Each fact of a request over the store of these entities: those of the request, that there is no other entity, and
+/// then entity by entity what is stored of it and each attribute's value. Refuses only if out of memory.
+pub fn all_facts<'x>(alloc: Global, entities: &'x [Entity]) -> Result<Vec<Fact<'x>>, AllocError>
+    ensures { IfOk result (λ v. facts_view v.items ≡ every_fact entities.now) }
+{
+    let mut facts = request_facts(alloc)?;
+    'entities: for entity in entities {
+        add_entity(&mut facts, entity)?;
+    }
+    Ok(facts)
+}
+
+// Those of the request, and that there is no other entity.
+fn request_facts<'x>(alloc: Global) -> Result<Vec<Fact<'x>>, AllocError>
+    ensures { IfOk result (λ v. facts_view v.items ≡ no_entity_facts) }
+{
+    let mut facts: Vec<Fact<'x>> = Vec::new(alloc);
+    add_last(&mut facts, Fact::Principal)?;
+    add_last(&mut facts, Fact::Action)?;
+    add_last(&mut facts, Fact::Resource)?;
+    add_last(&mut facts, Fact::Context)?;
+    add_last(&mut facts, Fact::NoOtherEntity)?;
+    Ok(facts)
+}
+
+// Puts those of the entity behind the others.
+fn add_entity<'x>(facts: &mut Vec<Fact<'x>>, entity: &'x Entity) -> Result<(), AllocError>
+    ensures { OnOk result (facts_view facts.new.items ≡ facts_view facts.old.items ++ facts_of_entity entity.now) }
+{
+    add_last(facts, Fact::Entity(entity.uid()))?;
+    add_attributes(facts, entity)?;
+    Ok(())
+}
+
+fn add_attributes<'x>(facts: &mut Vec<Fact<'x>>, entity: &'x Entity) -> Result<(), AllocError>
+    ensures { OnOk result (facts_view facts.new.items ≡ facts_view facts.old.items
+        ++ map (of_attribute (entity_name entity.now)) (names_of (entity_view entity.now).attributes)) }
+{
+    'names: for name in entity.keys() {
+        add_attribute(facts, entity, name)?;
+    }
+    Ok(())
+}
+
+fn add_attribute<'x>(
+    facts: &mut Vec<Fact<'x>>,
+    entity: &'x Entity,
+    name: &'x RcStr,
+) -> Result<(), AllocError>
+    ensures { OnOk result (facts_view facts.new.items ≡ facts_view facts.old.items
+        ++ of_attribute (entity_name entity.now) (rc_str_bytes name.now) ∷ []) }
+{
+    add_last(facts, Fact::Attribute(entity.uid(), name))?;
+    Ok(())
+}
+
+// Whether the fact is among these.
+pub(crate) fn is_kept(facts: &[Fact<'_>], wanted: Fact<'_>) -> bool
+    ensures { result ≡ is_kept (facts_view facts.now) (fact_view wanted.entry) }
+{
+    is_one_of(facts, wanted)
+}
+
+fn is_one_of(facts: &[Fact<'_>], wanted: Fact<'_>) -> bool
+    ensures { result ≡ is_one_of (fact_view wanted.entry) facts.now }
+{
+    facts.iter().any(|fact| is_same(wanted, *fact))
+}
+
+// Whether both are one fact.
+fn is_same(wanted: Fact<'_>, fact: Fact<'_>) -> bool
+    ensures { result ≡ is_same (fact_view wanted.entry) (fact_view fact.entry) }
+{
+    match wanted {
+        Fact::Principal => is_principal(fact),
+        Fact::Action => is_action(fact),
+        Fact::Resource => is_resource(fact),
+        Fact::Context => is_context(fact),
+        Fact::NoOtherEntity => is_no_other(fact),
+        Fact::Entity(uid) => is_entity(uid, fact),
+        Fact::Attribute(uid, name) => is_attribute(uid, name, fact),
+    }
+}
+
+fn is_principal(fact: Fact<'_>) -> bool
+    ensures { result ≡ is_principal (fact_view fact.entry) }
+{
+    match fact {
+        Fact::Principal => true,
+        Fact::Action => false,
+        Fact::Resource => false,
+        Fact::Context => false,
+        Fact::NoOtherEntity => false,
+        Fact::Entity(_) => false,
+        Fact::Attribute(_, _) => false,
+    }
+}
+
+fn is_action(fact: Fact<'_>) -> bool
+    ensures { result ≡ is_action (fact_view fact.entry) }
+{
+    match fact {
+        Fact::Principal => false,
+        Fact::Action => true,
+        Fact::Resource => false,
+        Fact::Context => false,
+        Fact::NoOtherEntity => false,
+        Fact::Entity(_) => false,
+        Fact::Attribute(_, _) => false,
+    }
+}
+
+fn is_resource(fact: Fact<'_>) -> bool
+    ensures { result ≡ is_resource (fact_view fact.entry) }
+{
+    match fact {
+        Fact::Principal => false,
+        Fact::Action => false,
+        Fact::Resource => true,
+        Fact::Context => false,
+        Fact::NoOtherEntity => false,
+        Fact::Entity(_) => false,
+        Fact::Attribute(_, _) => false,
+    }
+}
+
+fn is_context(fact: Fact<'_>) -> bool
+    ensures { result ≡ is_context (fact_view fact.entry) }
+{
+    match fact {
+        Fact::Principal => false,
+        Fact::Action => false,
+        Fact::Resource => false,
+        Fact::Context => true,
+        Fact::NoOtherEntity => false,
+        Fact::Entity(_) => false,
+        Fact::Attribute(_, _) => false,
+    }
+}
+
+fn is_no_other(fact: Fact<'_>) -> bool
+    ensures { result ≡ is_absence (fact_view fact.entry) }
+{
+    match fact {
+        Fact::Principal => false,
+        Fact::Action => false,
+        Fact::Resource => false,
+        Fact::Context => false,
+        Fact::NoOtherEntity => true,
+        Fact::Entity(_) => false,
+        Fact::Attribute(_, _) => false,
+    }
+}
+
+fn is_entity(uid: &EntityUID, fact: Fact<'_>) -> bool
+    ensures { result ≡ is_entity (uid_name uid.now) (fact_view fact.entry) }
+{
+    match fact {
+        Fact::Principal => false,
+        Fact::Action => false,
+        Fact::Resource => false,
+        Fact::Context => false,
+        Fact::NoOtherEntity => false,
+        Fact::Entity(other) => uid == other,
+        Fact::Attribute(_, _) => false,
+    }
+}
+
+fn is_attribute(uid: &EntityUID, name: &RcStr, fact: Fact<'_>) -> bool
+    ensures { result ≡ is_attribute (uid_name uid.now) (rc_str_bytes name.now) (fact_view fact.entry) }
+{
+    match fact {
+        Fact::Principal => false,
+        Fact::Action => false,
+        Fact::Resource => false,
+        Fact::Context => false,
+        Fact::NoOtherEntity => false,
+        Fact::Entity(_) => false,
+        Fact::Attribute(other, other_name) => uid == other && name == other_name,
+    }
+}
