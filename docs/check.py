@@ -172,7 +172,8 @@ def total(crate):
 def counts(page, text, crates):
     """Numbers of rows, of runs and of crates."""
     flat = " ".join(text.split())
-    for crate, what in (("cedar_test_tables", "rows"), ("cedar_test_texts", "rows"), ("cedar_test_cli", "runs")):
+    for crate, what in (("cedar_test_tables", "rows"), ("cedar_test_texts", "rows"), ("cedar_test_explained", "rows"),
+                        ("cedar_test_cli", "runs")):
         for number in re.findall(rf"`{crate}`[^`.;|]*?\b([\d,]+) {what}", flat):
             seen["counts"] += 1
             wants(int(number.replace(",", "")) == total(crate), f"{page}: `{crate}` has {total(crate)} {what}, and not {number}")
