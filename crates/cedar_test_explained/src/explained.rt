@@ -8,6 +8,7 @@ use cedar_evaluator::evaluator::Evaluator;
 use cedar_explain::{ExplainedPolicy, Lack, Part, explain_request, lacking};
 use cedar_extensions::Extensions;
 use cedar_layers::policies::{Entities, PolicySet};
+use cedar_requests::Request;
 use cedar_text_printer::effect_text;
 use std::alloc::Global;
 
@@ -21,25 +22,35 @@ pub fn explain_asked(
     entities: &Entities,
 ) {
     let extensions = Extensions::all_available();
-    match read_evaluator(answer.alloc, setting, entities, &extensions) {
-        Ok(evaluator) => {
-            explain(answer, setting, policies, &evaluator);
-            drop(evaluator);
-        }
+    match read_asked(answer.alloc, setting) {
+        Ok(asked) => explain_asked_by(answer, setting, policies, entities, &extensions, asked),
         Err(why) => answer.fail(why),
     }
 }
 
-fn read_evaluator<'e, 'f>(
-    alloc: Global,
+fn explain_asked_by(
+    answer: &mut Answer,
     setting: Setting<'_>,
-    entities: &'e Entities,
-    extensions: &'e Extensions<'f>,
-) -> Result<Evaluator<'e, 'f>, Unanswered> {
+    policies: &PolicySet,
+    entities: &Entities,
+    extensions: &Extensions<'_>,
+    asked: (Request, usize),
+) {
+    let (request, limit) = asked;
+    match Evaluator::new(answer.alloc, request, entities, extensions, limit) {
+        Ok(evaluator) => {
+            explain(answer, setting, policies, &evaluator);
+            drop(evaluator);
+        }
+        Err(_) => answer.fail(Unanswered::Memory),
+    }
+}
+
+fn read_asked(alloc: Global, setting: Setting<'_>) -> Result<(Request, usize), Unanswered> {
     let limit = setting.limit.parse::<usize>().ok().ok_or(NO_LIMIT)?;
     let resource = read_entry(alloc, setting.resource)?;
     let request = read_request(alloc, setting, resource)?;
-    Ok(Evaluator::new(alloc, request, entities, extensions, limit)?)
+    Ok((request, limit))
 }
 
 fn explain(
