@@ -1,8 +1,8 @@
--- A policy whose scope asks for none of the entities that a request covers is false.
+-- A policy whose scope asks for none of the entities that a request covers, or for a type that none is of, is false.
 use Rattle.std.specs.Prelude.{◌≡◌, ℕ, suc, ◌-◌, ◌≤◌, Bool, true, false, cond, ◌||◌, ◌&&◌, List, [], ◌∷◌, ◌++◌, map, Option, Some, None, Ok, is_some, codes}
 use Rattle.std.proofs.Common.{inl, inr, refl, sym, ap, ◌∙◌, subst, arith}
 use Rattle.std.proofs.lemmas.Bool.{and_parts, or_parts, or_from}
-use Rattle.cedar_model.specs.Terms.{EntityName, bool_literal, entity_literal, Variable, principal, action, resource, context}
+use Rattle.cedar_model.specs.Terms.{Text, EntityName, bool_literal, entity_literal, Variable, principal, action, resource, context}
 use Rattle.cedar_model.specs.Terms.{Term, literal, variable, slot, both, binary, BinaryOperator, eq_operator, in_operator}
 use Rattle.cedar_model.specs.Terms.{is_of_type, set_of, Terms, no_terms, one_term}
 use Rattle.cedar_model.specs.Values.{plain, Represented, plain_represented, set_represented, RepresentedValues, no_represented, one_represented, abstract_value, abstract_values}
@@ -19,8 +19,9 @@ use Rattle.cedar_model.specs.Responses.{with_slots}
 use Rattle.cedar_requests.specs.Requests.{entry_name}
 use Rattle.cedar_layers.specs.declared.policies.policy.Policy as layers
 use Rattle.cedar_layers.specs.Policies.{PolicyView, policy_view, condition_term, decides_as}
-use Rattle.cedar_layers.specs.Scopes.{is_entity_variable, literal_entity, in_front, listed_entities, only, named_entity, place_entities, sought_entities, compared_entities, is_type_test, asked_entities, is_truth, is_told}
-use Rattle.cedar_layers.specs.Scopes.{IsBoundTo, have_common, IsBoundElsewhere, AreAllBut, AreWithinReach}
+use Rattle.cedar_layers.specs.Scopes.{is_entity_variable, literal_entity, in_front, listed_entities, only, named_entity, place_entities, sought_entities, compared_entities, is_type_test, asked_type, asked_entities, is_truth, is_told}
+use Rattle.cedar_layers.specs.Scopes.{IsBoundTo, IsBoundToType, have_common, is_type_among, IsBoundElsewhere, AreAllBut, AreWithinReach}
+use Rattle.cedar_layers.proofs.Placing.{one_asked, is_false}
 use Rattle.cedar_authorizer.specs.Reaching.{IsFoundCovered, IsEntityCovered, IsEntryCovered, AreCovered, IsCoveredBy, Covers}
 use Rattle.cedar_authorizer.specs.Telling.{IsFalse, deciding_these}
 use Rattle.cedar_model.proofs.Injections.{some_inj, none_is_not_some, false_is_not_true, true_is_not_false}
@@ -173,6 +174,11 @@ module _ (es ds : List EntityName) (u : EntityName) (own : is_among u es ≡ tru
     elsewhere = λ none. none_passes es ds (entity_eq u) place.members another none place.apart;
   }
   stands_in not_known v above place = absurd above
+
+-- an entity is not of a type that none of these is of
+not_of_type : (es : List EntityName) (u : EntityName) (t : Text) → is_among u es ≡ true → is_type_among t es ≡ false → text_eq u.type_name t ≡ false
+not_of_type es u t own none =
+    is_false (text_eq u.type_name t) (λ h. true_is_not_false (one_asked es (λ e. text_eq e.type_name t) u h own) none)
 
 -- ---- what a variable stands for
 
@@ -340,6 +346,22 @@ module _ (s : Setting) (calls : StoredCalls) where
         )
     test_runs n t h = absurd (false_is_not_true h)
 
+    -- a test for a type that none of those covered is of
+    type_false : (n : ℕ) (t : Term) (ty : Text) → asked_type t ≡ Some ty → is_type_among ty es ≡ false → Runs s calls (suc (suc n)) t (answers_bool false)
+    unfolding asked_type is_part expecting entity_of
+    type_false n (is_of_type t name) ty h none = by (is_entity_variable t) refl h
+      where
+        by : (q : Bool) → is_entity_variable t ≡ q → cond q (Some name) None ≡ Some ty → Runs s calls (suc (suc n)) (is_of_type t name) (answers_bool false)
+        by true f k =
+            let z = is_variable t f in
+            let v = known_as s es covered z.0 z.2 in
+            let apart : text_eq v.u.type_name name ≡ false = ap (text_eq v.u.type_name) (some_inj k) ∙ not_of_type es v.u ty v.entity_covered.own none in
+            subst (λ b. Runs s calls (suc (suc n)) (is_of_type t name) (answers_bool b)) apart
+            (subst (λ x. Runs s calls (suc (suc n)) (is_of_type x name) (answers_bool (text_eq v.u.type_name name))) (sym z.1)
+            (answers_value (uid_value v.u), sym (ap answers v.part), refl))
+        by false f k = absurd (none_is_not_some k)
+    type_false n t ty h none = absurd (none_is_not_some h)
+
     -- a boolean, which is false where none of these is covered
     record RunsAsAsked (n : ℕ) (t : Term) (ds : List EntityName) : Type 0 where
       pub truth : Bool
@@ -395,7 +417,7 @@ module _ (s : Setting) (calls : StoredCalls) where
 
 -- ---- scopes
 
-module _ (s : Setting) (calls : StoredCalls) (es : List EntityName) (covered : AreCovered s.request s.store es) (n : ℕ) (p : PolicyView) (ds : List EntityName) (none : have_common ds es ≡ false) where
+module _ (s : Setting) (calls : StoredCalls) (es : List EntityName) (covered : AreCovered s.request s.store es) (n : ℕ) (p : PolicyView) where
   -- the setting in which the policy runs
   abbrev own : Setting
   own = with_slots s p.slots
@@ -422,42 +444,58 @@ module _ (s : Setting) (calls : StoredCalls) (es : List EntityName) (covered : A
   by_pair : Runs own calls (suc part_levels) pair (answers_bool false) → Fails
   by_pair h = by_scope (false_left own calls (suc part_levels) pair p.resource_constraint h)
 
-  by_principal : asked_entities p.slots p.principal_constraint ≡ Some ds → Fails
-  by_principal h = by_pair (false_left own calls part_levels p.principal_constraint p.action_constraint (asked_false own calls es covered n p.principal_constraint ds h none))
+  -- a constraint is false, and those before it are booleans
+  by_principal : Runs own calls part_levels p.principal_constraint (answers_bool false) → Fails
+  by_principal h = by_pair (false_left own calls part_levels p.principal_constraint p.action_constraint h)
 
-  by_action : is_told p.slots p.principal_constraint ≡ true → asked_entities p.slots p.action_constraint ≡ Some ds → Fails
+  by_action : is_told p.slots p.principal_constraint ≡ true → Runs own calls part_levels p.action_constraint (answers_bool false) → Fails
   by_action told h =
       let z = told_runs own calls es covered n p.principal_constraint told in
-      by_pair (false_right own calls part_levels p.principal_constraint p.action_constraint z.0 z.1 (asked_false own calls es covered n p.action_constraint ds h none))
+      by_pair (false_right own calls part_levels p.principal_constraint p.action_constraint z.0 z.1 h)
 
-  by_resource : is_told p.slots p.principal_constraint ≡ true → is_told p.slots p.action_constraint ≡ true → asked_entities p.slots p.resource_constraint ≡ Some ds → Fails
+  by_resource : is_told p.slots p.principal_constraint ≡ true → is_told p.slots p.action_constraint ≡ true → Runs own calls (suc part_levels) p.resource_constraint (answers_bool false) → Fails
   by_resource told too h =
       let z =
       both_run own calls part_levels p.principal_constraint p.action_constraint (told_runs own calls es covered n p.principal_constraint told)
       (told_runs own calls es covered n p.action_constraint too) in
-      by_scope (false_right own calls (suc part_levels) pair p.resource_constraint z.0 z.1 (asked_false own calls es covered (suc n) p.resource_constraint ds h none))
+      by_scope (false_right own calls (suc part_levels) pair p.resource_constraint z.0 z.1 h)
 
-  if_told : (b : Bool) (o : Option (List EntityName)) → cond b o None ≡ Some ds → (b ≡ true) × (o ≡ Some ds)
-  if_told true o h = (refl, h)
-  if_told false o h = absurd (none_is_not_some h)
+  if_told : {A : Type 0} (b : Bool) (o : Option A) (x : A) → cond b o None ≡ Some x → (b ≡ true) × (o ≡ Some x)
+  if_told true o x h = (refl, h)
+  if_told false o x h = absurd (none_is_not_some h)
 
-  bound_is_false : IsBoundTo p ds → Fails
-  bound_is_false (inl h) = by_principal h
-  bound_is_false (inr (inl h)) =
-      let z = if_told (is_told p.slots p.principal_constraint) (asked_entities p.slots p.action_constraint) h in
-      by_action z.0 z.1
-  bound_is_false (inr (inr h)) =
-      let z = if_told (is_told p.slots p.principal_constraint && is_told p.slots p.action_constraint) (asked_entities p.slots p.resource_constraint) h in
+  bound_is_false : (ds : List EntityName) → have_common ds es ≡ false → IsBoundTo p ds → Fails
+  bound_is_false ds none (inl h) = by_principal (asked_false own calls es covered n p.principal_constraint ds h none)
+  bound_is_false ds none (inr (inl h)) =
+      let z = if_told (is_told p.slots p.principal_constraint) (asked_entities p.slots p.action_constraint) ds h in
+      by_action z.0 (asked_false own calls es covered n p.action_constraint ds z.1 none)
+  bound_is_false ds none (inr (inr h)) =
+      let z = if_told (is_told p.slots p.principal_constraint && is_told p.slots p.action_constraint) (asked_entities p.slots p.resource_constraint) ds h in
       let y = and_parts (is_told p.slots p.principal_constraint) (is_told p.slots p.action_constraint) z.0 in
-      by_resource y.0 y.1 z.1
+      by_resource y.0 y.1 (asked_false own calls es covered (suc n) p.resource_constraint ds z.1 none)
+
+  bound_to_type_is_false : (t : Text) → is_type_among t es ≡ false → IsBoundToType p t → Fails
+  bound_to_type_is_false t none (inl h) =
+      by_principal (type_false own calls es covered (suc (suc n)) p.principal_constraint t h none)
+  bound_to_type_is_false t none (inr (inl h)) =
+      let z = if_told (is_told p.slots p.principal_constraint) (asked_type p.action_constraint) t h in
+      by_action z.0 (type_false own calls es covered (suc (suc n)) p.action_constraint t z.1 none)
+  bound_to_type_is_false t none (inr (inr h)) =
+      let z = if_told (is_told p.slots p.principal_constraint && is_told p.slots p.action_constraint) (asked_type p.resource_constraint) t h in
+      let y = and_parts (is_told p.slots p.principal_constraint) (is_told p.slots p.action_constraint) z.0 in
+      by_resource y.0 y.1 (type_false own calls es covered (suc (suc (suc n))) p.resource_constraint t z.1 none)
+
+  elsewhere_fails : IsBoundElsewhere es p → Fails
+  elsewhere_fails (inl h) = bound_is_false h.0 h.2 h.1
+  elsewhere_fails (inr h) = bound_to_type_is_false h.0 h.2 h.1
 
 -- ---- policies that are left out
 
 pub elsewhere_is_false : (s : Setting) (calls : StoredCalls) (levels : ℕ) (es : List EntityName) → 7 ≤ levels → AreCovered s.request s.store es → (p : PolicyView) → IsBoundElsewhere es p → IsFalse s calls levels (decides_as p)
-elsewhere_is_false s calls levels es enough covered p (ds, bound, none) =
+elsewhere_is_false s calls levels es enough covered p bound =
     let same : suc (suc (suc (suc (suc (suc (suc (levels - 7))))))) ≡ levels = omega (arith, enough) in
     subst (λ n. Runs (with_slots s p.slots) calls n (condition_term p) (answers_bool false)) same
-    (bound_is_false s calls es covered (levels - 7) p ds none bound)
+    (elsewhere_fails s calls es covered (levels - 7) p bound)
 
 pub others_false : (s : Setting) (calls : StoredCalls) (levels : ℕ) (es : List EntityName) → 7 ≤ levels → AreCovered s.request s.store es → (ps qs : List layers.Policy) → AreWithinReach es ps qs → AreAllBut (IsFalse s calls levels) (deciding_these ps) (deciding_these qs)
 others_false s calls levels es enough covered [] qs h = ap deciding_these h

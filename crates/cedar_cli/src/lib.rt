@@ -8,7 +8,7 @@
 //!   requests and limits.
 //! - `decisions`, `explanations`, `partial`, `stages`, `steps`, `left`, `evaluations`: what is answered. `batch`: what
 //!   is answered to many requests, a line each. `documents`, `readable`, `translations`: answers, and policies, as JSON.
-//!   `strictness`: what is told of policies that are read.
+//!   `strictness`, `repeated`: what is told of policies that are read.
 //! - `refusal`, `faults`, `places`, `visible`, `warnings`, `undecided`: why a question is not answered, and where; what
 //!   is told beside an answer.
 //!
@@ -19,7 +19,7 @@
 //! which the last has the headline (`specs/Stages`, over `Steps`), and refuses for those of `specs/Stopped`; what
 //! `evaluate_expression` prints is the value (`specs/Evaluated`, `Visible`), and `format_policies` keeps tokens and
 //! comments. Below a decision `authorize_and_explain` prints why (`specs/Explained`); `check_strictly` tells policies
-//! that apply in no world (`specs/Strict`), and `translate_to_json` prints policies as JSON (`specs/Translated`). Words
+//! that can't be meant (`specs/Strict`), and `translate_to_json` prints policies as JSON (`specs/Translated`). Words
 //! and statuses go by `specs/Printing`, policies' names by `specs/Named`, what is printed as JSON by `specs/Documents`,
 //! lines and columns by `specs/Noted`. A refused run has nothing to print by its type (`Answer`).
 //! `docs/COMMANDS.md` describes each command and where these promises end; the rest is tested by `cedar_test_cli`.
@@ -43,6 +43,7 @@ mod policies;
 mod readable;
 mod reading;
 mod refusal;
+mod repeated;
 mod run;
 mod stages;
 mod steps;

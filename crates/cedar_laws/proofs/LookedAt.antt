@@ -1,18 +1,19 @@
 -- Policies that an index looks at, counted.
-use Rattle.std.proofs.Common.{◌≡◌, ◌⊎◌, inl, inr, refl, sym, ap, ◌∙◌, subst, arith, ℕ, ◌+◌, ◌≤◌, Bool, true, false, cond, not, ◌||◌, ◌&&◌, List, [], ◌∷◌, length, Option, None, Some, is_some}
+use Rattle.std.proofs.Common.{◌≡◌, ◌⊎◌, inl, inr, refl, sym, ap, ◌∙◌, arith, ℕ, ◌+◌, ◌≤◌, Bool, true, false, cond, not, ◌||◌, ◌&&◌, List, [], ◌∷◌, length, Option, None, Some, is_some}
 use Rattle.std.specs.Prelude.{filter, count_by, sum_by}
 use Rattle.std.specs.List.{list_any, list_all}
 use Rattle.std.proofs.lemmas.Bool.{and_parts, or_cases, or_left, or_right}
 use Rattle.std.proofs.lemmas.List.Sums.{sum_by-cons}
-use Rattle.cedar_model.specs.Terms.{EntityName}
-use Rattle.cedar_model.specs.Outcomes.{entity_eq}
+use Rattle.cedar_model.specs.Terms.{Text, EntityName}
+use Rattle.cedar_model.specs.Outcomes.{text_eq, entity_eq}
 use Rattle.cedar_model.specs.Settings.{is_among}
 use Rattle.cedar_layers.specs.declared.policies.policy.Policy.{Policy}
 use Rattle.cedar_layers.specs.Policies.{PolicyView, policy_view}
-use Rattle.cedar_names.specs.EqualityLaws.{entity_eq-decides}
+use Rattle.cedar_names.specs.EqualityLaws.{text_eq-decides}
 use Rattle.cedar_names.proofs.Among.{is_among-self}
-use Rattle.cedar_layers.specs.Scopes.{principal_bound, action_bound, resource_bound, have_common, is_one_of, asks_for, is_in_rest, is_looked_at, IsBoundElsewhere, AreAllBut}
-use Rattle.cedar_laws.specs.Index.{is_none_but, is_reached, ReachedAreWithinReach, ReachedAreBounded, LookedAtAreBounded, WithinReachAreFewer}
+use Rattle.cedar_layers.specs.Scopes.{principal_bound, action_bound, resource_bound, principal_type_bound, action_type_bound, resource_type_bound, have_common, is_one_of, asks_for, is_this_type, asks_for_type, asks_for_no_entity, asks_for_no_type, is_in_rest, is_looked_at, IsBoundElsewhere, AreAllBut}
+use Rattle.cedar_layers.proofs.Placing.{one_asked, one_of_type}
+use Rattle.cedar_laws.specs.Index.{is_none_but, is_no_type_but, asks_only_for, asks_only_for_types, is_reached, types_of, ReachedAreWithinReach, ReachedAreBounded, LookedAtAreBounded, WithinReachAreFewer}
 
 -- ---- sums
 
@@ -75,6 +76,18 @@ module _ {A E : Type 0} (t r : A → Bool) (a : E → A → Bool) (es : List E) 
       ap (λ (f : E → ℕ). sum_by f es) (λ j e. count-cons (a e) x xs j) ∙ sum-plus (λ e. one_if (a e x)) (λ e. count_by (a e) xs) es in
       omega (arith, here, rest, b, c, d)
 
+-- the same of what passes one of several of two kinds
+module _ {A E F : Type 0} (t r : A → Bool) (a : E → A → Bool) (b : F → A → Bool) (es : List E) (fs : List F) (passes : (x : A) → t x ≡ true → (r x || (list_any (λ e. a e x) es || list_any (λ f. b f x) fs)) ≡ true) where
+  either_first : (c d e : Bool) → (c || (d || e)) ≡ true → ((c || d) || e) ≡ true
+  either_first true d e h = refl
+  either_first false d e h = h
+
+  pub counted_twice : (xs : List A) → count_by t xs ≤ count_by r xs + sum_by (λ e. count_by (a e) xs) es + sum_by (λ f. count_by (b f) xs) fs
+  counted_twice xs =
+      let one = counted t (λ x. r x || list_any (λ e. a e x) es) b fs (λ x h. either_first (r x) (list_any (λ e. a e x) es) (list_any (λ f. b f x) fs) (passes x h)) xs in
+      let two = counted (λ x. r x || list_any (λ e. a e x) es) r a es (λ x h. h) xs in
+      omega (arith, one, two)
+
 -- ---- lists from which some are left out
 
 -- of each kind no more are left than there are
@@ -113,16 +126,6 @@ same_passes {A = A} Such test fails (x ∷ xs) ys (inr h) =
 
 -- ---- scopes
 
--- what passes a test, and is among these, is one of these that passes it
-one_asked : (es : List EntityName) (f : EntityName → Bool) (d : EntityName) → f d ≡ true → is_among d es ≡ true → list_any f es ≡ true
-unfolding is_among
-one_asked [] f d so h = absurd cc
-one_asked (e ∷ es) f d so h = by (or_cases (entity_eq d e) (is_among d es) h) (one_asked es f d so)
-  where
-    by : (entity_eq d e ≡ true) ⊎ (is_among d es ≡ true) → (is_among d es ≡ true → list_any f es ≡ true) → (f e || list_any f es) ≡ true
-    by (inl g) rest = or_left (f e) (list_any f es) (subst (λ c. f c ≡ true) ((entity_eq-decides d e).0 g) so)
-    by (inr g) rest = or_right (f e) (list_any f es) (rest g)
-
 -- where lists have one in common, one of the second is asked for
 asked : (ds es : List EntityName) (f : EntityName → Bool) → ((e : EntityName) → is_among e ds ≡ true → f e ≡ true) → have_common ds es ≡ true → list_any f es ≡ true
 unfolding is_among
@@ -141,26 +144,85 @@ looked_at es None None (Some ds) h = asked ds es (λ e. is_among e ds) (λ e g. 
 looked_at es None (Some ds) c h = asked ds es (λ e. is_among e ds || is_one_of e c) (λ e g. or_left _ _ g) ((and_parts _ _ h).0)
 looked_at es (Some ds) b c h = asked ds es (λ e. is_among e ds || (is_one_of e b || is_one_of e c)) (λ e g. or_left _ _ g) ((and_parts _ _ h).0)
 
+-- where no type is asked for but theirs, none is, or one of theirs
+type_looked_at : (es : List EntityName) (a b c : Option Text) → (is_no_type_but es a && (is_no_type_but es b && is_no_type_but es c)) ≡ true
+    → (not (is_some a || (is_some b || is_some c)) || list_any (λ e. is_this_type e.type_name a || (is_this_type e.type_name b || is_this_type e.type_name c)) es) ≡ true
+type_looked_at es None None None h = refl
+type_looked_at es None None (Some t) h = one_of_type es (λ u. text_eq u t) t ((text_eq-decides t t).1 refl) h
+type_looked_at es None (Some t) c h =
+    one_of_type es (λ u. text_eq u t || is_this_type u c) t (or_left _ _ ((text_eq-decides t t).1 refl)) ((and_parts _ _ h).0)
+type_looked_at es (Some t) b c h =
+    one_of_type es (λ u. text_eq u t || (is_this_type u b || is_this_type u c)) t (or_left _ _ ((text_eq-decides t t).1 refl)) ((and_parts _ _ h).0)
+
+both_or : (x y a b : Bool) → (x || a) ≡ true → (y || b) ≡ true → ((x && y) || (a || b)) ≡ true
+both_or x y true b h g = or_right (x && y) (true || b) refl
+both_or true true false b h g = refl
+both_or true false false true h g = refl
+both_or true false false false h g = g
+both_or false y false b h g = absurd (cc)
+
 reached_is_looked_at : (es : List EntityName) (p : PolicyView) → is_reached es p ≡ true → is_looked_at es p ≡ true
-reached_is_looked_at es p h = looked_at es (principal_bound p) (action_bound p) (resource_bound p) h
+reached_is_looked_at es p h =
+    let both = and_parts (asks_only_for es p) (asks_only_for_types es p) h in
+    both_or (asks_for_no_entity p) (asks_for_no_type p) (list_any (λ e. asks_for e p) es) (list_any (λ e. asks_for_type e.type_name p) es) (looked_at es (principal_bound p) (action_bound p) (resource_bound p) both.0)
+    (type_looked_at es (principal_type_bound p) (action_type_bound p) (resource_type_bound p) both.1)
+
+-- where one of three is not so, not all are
+and_last : (x y : Bool) → y ≡ false → (x && y) ≡ false
+and_last true y g = g
+and_last false y g = refl
+
+one_fails : {A : Type 0} (f : A → Bool) (x y z w : A) → f w ≡ false → (x ≡ w) ⊎ ((y ≡ w) ⊎ (z ≡ w)) → (f x && (f y && f z)) ≡ false
+one_fails f x y z w so (inl h) = ap (λ b. b && (f y && f z)) (ap f h ∙ so)
+one_fails f x y z w so (inr (inl h)) = and_last (f x) _ (ap (λ b. b && f z) (ap f h ∙ so))
+one_fails f x y z w so (inr (inr h)) = and_last (f x) _ (and_last (f y) _ (ap f h ∙ so))
 
 -- what is bound elsewhere is not reached
-elsewhere : (es : List EntityName) (a b c : Option (List EntityName)) (ds : List EntityName) → (a ≡ Some ds) ⊎ ((b ≡ Some ds) ⊎ (c ≡ Some ds)) → have_common ds es ≡ false
-    → (is_none_but es a && (is_none_but es b && is_none_but es c)) ≡ false
-elsewhere es a b c ds (inl h) apart = ap (λ (o : Option (List EntityName)). is_none_but es o && (is_none_but es b && is_none_but es c)) h ∙ ap (λ x. x && (is_none_but es b && is_none_but es c)) apart
-elsewhere es a b c ds (inr (inl h)) apart = last (is_none_but es a) _ (ap (λ (o : Option (List EntityName)). is_none_but es o && is_none_but es c) h ∙ ap (λ x. x && is_none_but es c) apart)
-  where
-    last : (x y : Bool) → y ≡ false → (x && y) ≡ false
-    last true y g = g
-    last false y g = refl
-elsewhere es a b c ds (inr (inr h)) apart = last (is_none_but es a) _ (last (is_none_but es b) _ (ap (is_none_but es) h ∙ apart))
-  where
-    last : (x y : Bool) → y ≡ false → (x && y) ≡ false
-    last true y g = g
-    last false y g = refl
-
 elsewhere_is_not_reached : (es : List EntityName) (p : PolicyView) → IsBoundElsewhere es p → is_reached es p ≡ false
-elsewhere_is_not_reached es p h = elsewhere es (principal_bound p) (action_bound p) (resource_bound p) h.0 h.1 h.2
+elsewhere_is_not_reached es p (inl h) =
+    ap (λ b. b && asks_only_for_types es p) (one_fails (is_none_but es) (principal_bound p) (action_bound p) (resource_bound p) (Some h.0) h.2 h.1)
+elsewhere_is_not_reached es p (inr h) =
+    and_last (asks_only_for es p) _ (one_fails (is_no_type_but es) (principal_type_bound p) (action_type_bound p) (resource_type_bound p) (Some h.0) h.2 h.1)
+
+-- what one of their types passes, one of these passes that are each there once
+once : (es : List EntityName) (f : Text → Bool) → list_any (λ e. f e.type_name) es ≡ true → list_any f (types_of es) ≡ true
+once [] f h = h
+once (e ∷ es) f h =
+    by (list_any (text_eq e.type_name) (types_of es)) refl (or_cases (f e.type_name) (list_any (λ d. f d.type_name) es) h) (once es f)
+  where
+    there : (ts : List Text) → f e.type_name ≡ true → list_any (text_eq e.type_name) ts ≡ true → list_any f ts ≡ true
+    there [] so g = g
+    there (t ∷ ts) so g = among (or_cases (text_eq e.type_name t) (list_any (text_eq e.type_name) ts) g) (there ts so)
+      where
+        among : (text_eq e.type_name t ≡ true) ⊎ (list_any (text_eq e.type_name) ts ≡ true) → (list_any (text_eq e.type_name) ts ≡ true → list_any f ts ≡ true) → (f t || list_any f ts) ≡ true
+        among (inl k) rest = or_left (f t) (list_any f ts) (sym (ap f ((text_eq-decides e.type_name t).0 k)) ∙ so)
+        among (inr k) rest = or_right (f t) (list_any f ts) (rest k)
+
+    by : (b : Bool) → list_any (text_eq e.type_name) (types_of es) ≡ b → (f e.type_name ≡ true) ⊎ (list_any (λ d. f d.type_name) es ≡ true)
+        → (list_any (λ d. f d.type_name) es ≡ true → list_any f (types_of es) ≡ true)
+        → list_any f (types_of (e ∷ es)) ≡ true
+    by b is which rest =
+        ap (λ c. list_any f (cond c (types_of es) (e.type_name ∷ types_of es))) is ∙ last b is which
+      where
+        last : (c : Bool) → list_any (text_eq e.type_name) (types_of es) ≡ c → (f e.type_name ≡ true) ⊎ (list_any (λ d. f d.type_name) es ≡ true) → list_any f (cond c (types_of es) (e.type_name ∷ types_of es)) ≡ true
+        last true g (inl k) = there (types_of es) k g
+        last true g (inr k) = rest k
+        last false g (inl k) = or_left (f e.type_name) (list_any f (types_of es)) k
+        last false g (inr k) = or_right (f e.type_name) (list_any f (types_of es)) (rest k)
+
+looked_at_once : (es : List EntityName) (p : PolicyView) → is_looked_at es p ≡ true
+    → (is_in_rest p || (list_any (λ e. asks_for e p) es || list_any (λ t. asks_for_type t p) (types_of es))) ≡ true
+looked_at_once es p h = by (or_cases _ _ h)
+  where
+    named : (list_any (λ e. asks_for e p) es ≡ true) ⊎ (list_any (λ e. asks_for_type e.type_name p) es ≡ true)
+        → (is_in_rest p || (list_any (λ e. asks_for e p) es || list_any (λ t. asks_for_type t p) (types_of es))) ≡ true
+    named (inl k) = or_right _ _ (or_left _ _ k)
+    named (inr k) = or_right _ _ (or_right _ _ (once es (λ t. asks_for_type t p) k))
+
+    by : (is_in_rest p ≡ true) ⊎ ((list_any (λ e. asks_for e p) es || list_any (λ e. asks_for_type e.type_name p) es) ≡ true)
+        → (is_in_rest p || (list_any (λ e. asks_for e p) es || list_any (λ t. asks_for_type t p) (types_of es))) ≡ true
+    by (inl k) = or_left _ _ k
+    by (inr k) = named (or_cases _ _ k)
 
 -- ---- laws
 
@@ -170,7 +232,8 @@ reached_are_within_reach es all some h =
 
 pub reached_are_bounded : ReachedAreBounded
 reached_are_bounded es all =
-    counted (λ p. is_reached es (policy_view p)) (λ p. is_in_rest (policy_view p)) (λ e p. asks_for e (policy_view p)) es (λ p g. reached_is_looked_at es (policy_view p) g) all
+    counted_twice (λ p. is_reached es (policy_view p)) (λ p. is_in_rest (policy_view p)) (λ e p. asks_for e (policy_view p)) (λ t p. asks_for_type t (policy_view p)) es (types_of es)
+    (λ p g. looked_at_once es (policy_view p) (reached_is_looked_at es (policy_view p) g)) all
 
 pub within_reach_are_fewer : WithinReachAreFewer
 within_reach_are_fewer es all some h test = fewer (λ p. IsBoundElsewhere es (policy_view p)) (λ p. test (policy_view p)) all some h
@@ -179,5 +242,7 @@ pub looked_at_are_bounded : LookedAtAreBounded
 looked_at_are_bounded es all some h pass =
     let a = all_pass (λ (p : Policy). is_looked_at es (policy_view p)) some pass in
     let b = within_reach_are_fewer es all some h (is_looked_at es) in
-    let c = counted (λ (p : Policy). is_looked_at es (policy_view p)) (λ p. is_in_rest (policy_view p)) (λ e p. asks_for e (policy_view p)) es (λ p g. g) all in
+    let c =
+    counted_twice (λ (p : Policy). is_looked_at es (policy_view p)) (λ p. is_in_rest (policy_view p)) (λ e p. asks_for e (policy_view p)) (λ t p. asks_for_type t (policy_view p)) es (types_of es)
+    (λ p g. looked_at_once es (policy_view p) g) all in
     omega (arith, a, b, c)

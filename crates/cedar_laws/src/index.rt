@@ -3,14 +3,14 @@ ghost use Rattle.cedar_laws.specs.Index.{ReachedAreWithinReach, ReachedAreBounde
 ghost use Rattle.cedar_laws.specs.Index.{WithinReachAreFewer};
 
 /// Of the policies that `within_reach` answers, those whose scopes ask of principal, action and resource for nothing,
-/// or for entities of which one is among these, are exactly those of the whole set that do, in order: an index loses
-/// none of them.
+/// for entities of which one is among these, or for the type of one of these, are exactly those of the whole set that
+/// do, in order: an index loses none of them.
 pub fn reached_policies_are_within_reach()
     ensures { ReachedAreWithinReach }
 {}
 
-/// They are at most as many as are in the rest (their scopes ask for no entity) and, for each of the entities, ask for
-/// it.
+/// They are at most as many as are in the rest (their scopes ask for no entity and no type) and, for each of the
+/// entities and for each of their types, counted once, ask for it.
 pub fn reached_policies_are_bounded()
     ensures { ReachedAreBounded }
 {}

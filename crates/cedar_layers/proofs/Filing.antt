@@ -4,12 +4,13 @@ use Rattle.std.proofs.lemmas.Bool.{or_cases, or_left, or_right, and_from, and_pa
 use Rattle.std.proofs.lemmas.List.Folds.{list_any-append, list_all-append}
 use Rattle.std.specs.List.{list_any}
 use Rattle.std.specs.Prelude.{slice_get}
-use Rattle.cedar_model.specs.Terms.{EntityName}
+use Rattle.cedar_model.specs.Terms.{Text, EntityName}
+use Rattle.cedar_model.specs.Outcomes.{text_eq}
 use Rattle.cedar_model.specs.Settings.{is_among}
 use Rattle.cedar_layers.specs.declared.policies.policy.Policy.{Policy}
 use Rattle.cedar_layers.specs.declared.policies.scope_index.ScopeIndex.{ScopeIndex}
 use Rattle.cedar_layers.specs.Policies.{PolicyView, policy_view}
-use Rattle.cedar_layers.specs.Scopes.{principal_bound, action_bound, resource_bound, IsBoundTo, is_one_of, asks_for, is_looked_at, Groups, standing_under, has_position, is_looked_up, passes, AreFiledRight, Places, Extends, ReachesNoOther, AreOfPositions}
+use Rattle.cedar_layers.specs.Scopes.{principal_bound, action_bound, resource_bound, principal_type_bound, action_type_bound, resource_type_bound, IsBoundTo, IsBoundToType, is_one_of, asks_for, is_this_type, asks_for_type, is_in_rest, is_looked_at, Groups, TypeGroups, standing_under, standing_under_type, under_entity, under_type, has_position, is_looked_up, passes, AreFiledRight, Places, AreOfPositions}
 use Rattle.cedar_model.proofs.Injections.{false_is_not_true}
 
 -- ---- what one more policy changes
@@ -18,73 +19,113 @@ one_of : (n : EntityName) (o : Option (List EntityName)) (ns : List EntityName) 
 one_of n o ns among h = ap (is_one_of n) h ∙ among
 
 -- what a scope is bound to it asks for
-bound_is_asked_for : (p : PolicyView) (ns : List EntityName) → IsBoundTo p ns → (n : EntityName) → is_among n ns ≡ true → asks_for n p ≡ true
+pub bound_is_asked_for : (p : PolicyView) (ns : List EntityName) → IsBoundTo p ns → (n : EntityName) → is_among n ns ≡ true → asks_for n p ≡ true
 bound_is_asked_for p ns (inl h) n among = or_left _ _ (one_of n (principal_bound p) ns among h)
 bound_is_asked_for p ns (inr (inl h)) n among =
     or_right _ _ (or_left _ _ (one_of n (action_bound p) ns among h))
 bound_is_asked_for p ns (inr (inr h)) n among =
     or_right _ _ (or_right _ _ (one_of n (resource_bound p) ns among h))
 
--- the position j stood under one of these entities, or it is the position i of a policy that asks for one
-abbrev StoodOrAsks : Groups → ℕ → PolicyView → List EntityName → ℕ → Type 0
-StoodOrAsks old i p es j =
-    (list_any (λ e. has_position j (standing_under old e)) es ≡ true) ⊎ (((j == i) ≡ true) × (list_any (λ e. asks_for e p) es ≡ true))
+this_type : (u : Text) (o : Option Text) (t : Text) → text_eq u t ≡ true → o ≡ Some t → is_this_type u o ≡ true
+this_type u o t same h = ap (is_this_type u) h ∙ same
 
-module _ (old new : Groups) (ns : List EntityName) (i : ℕ) (more : Extends old new ns i) where
-  -- what stands under an entity did, or is the new position under one of its entities
-  under_one : (j : ℕ) (m : EntityName) → has_position j (standing_under new m) ≡ true → (has_position j (standing_under old m) ≡ true) ⊎ (((j == i) ≡ true) × (is_among m ns ≡ true))
-  under_one j m h = by (or_cases _ _ (sym (more j m) ∙ h))
-    where
-      by : (has_position j (standing_under old m) ≡ true) ⊎ ((j == i && is_among m ns) ≡ true) → (has_position j (standing_under old m) ≡ true) ⊎ (((j == i) ≡ true) × (is_among m ns ≡ true))
-      by (inl k) = inl k
-      by (inr k) = inr (and_parts (j == i) (is_among m ns) k)
+pub bound_type_is_asked_for : (p : PolicyView) (t : Text) → IsBoundToType p t → (u : Text) → text_eq u t ≡ true → asks_for_type u p ≡ true
+bound_type_is_asked_for p t (inl h) u same = or_left _ _ (this_type u (principal_type_bound p) t same h)
+bound_type_is_asked_for p t (inr (inl h)) u same =
+    or_right _ _ (or_left _ _ (this_type u (action_type_bound p) t same h))
+bound_type_is_asked_for p t (inr (inr h)) u same =
+    or_right _ _ (or_right _ _ (this_type u (resource_type_bound p) t same h))
 
-  under_any : (j : ℕ) (p : PolicyView) → ((m : EntityName) → is_among m ns ≡ true → asks_for m p ≡ true) → (es : List EntityName) → list_any (λ e. has_position j (standing_under new e)) es ≡ true → StoodOrAsks old i p es j
-  under_any j p asked [] h = absurd (false_is_not_true h)
-  under_any j p asked (e ∷ es) h = by (or_cases _ _ h) (under_any j p asked es)
+-- it was so, or there is something new
+abbrev pub WasOr : Bool → Bool → Bool → Type 0
+WasOr was here asks = (was ≡ true) ⊎ ((here ≡ true) × (asks ≡ true))
+
+was_or : (was here asks now : Bool) → now ≡ (was || (here && asks)) → now ≡ true → WasOr was here asks
+was_or was here asks now e h = by (or_cases was (here && asks) (sym e ∙ h))
+  where
+    by : (was ≡ true) ⊎ ((here && asks) ≡ true) → WasOr was here asks
+    by (inl k) = inl k
+    by (inr k) = inr (and_parts here asks k)
+
+pub asks_more : (was here these asks now : Bool) → now ≡ (was || (here && these)) → (these ≡ true → asks ≡ true) → now ≡ true → WasOr was here asks
+asks_more was here these asks now e so h = by (was_or was here these now e h)
+  where
+    by : WasOr was here these → WasOr was here asks
+    by (inl k) = inl k
+    by (inr k) = inr (k.0, so k.1)
+
+module _ {E : Type 0} (now was asks : E → Bool) (here : Bool) (each : (e : E) → now e ≡ true → WasOr (was e) here (asks e)) where
+  of_any : (es : List E) → list_any now es ≡ true → WasOr (list_any was es) here (list_any asks es)
+  of_any [] h = absurd (false_is_not_true h)
+  of_any (e ∷ es) h = by (or_cases _ _ h) (of_any es)
     where
-      first : (has_position j (standing_under old e) ≡ true) ⊎ (((j == i) ≡ true) × (is_among e ns ≡ true)) → StoodOrAsks old i p (e ∷ es) j
+      first : WasOr (was e) here (asks e) → WasOr (was e || list_any was es) here (asks e || list_any asks es)
       first (inl k) = inl (or_left _ _ k)
-      first (inr k) = inr (k.0, or_left _ _ (asked e k.1))
+      first (inr k) = inr (k.0, or_left _ _ k.1)
 
-      others : StoodOrAsks old i p es j → StoodOrAsks old i p (e ∷ es) j
+      others : WasOr (list_any was es) here (list_any asks es) → WasOr (was e || list_any was es) here (asks e || list_any asks es)
       others (inl k) = inl (or_right _ _ k)
       others (inr k) = inr (k.0, or_right _ _ k.1)
 
-      by : (has_position j (standing_under new e) ≡ true) ⊎ (list_any (λ x. has_position j (standing_under new x)) es ≡ true)
-          → (list_any (λ x. has_position j (standing_under new x)) es ≡ true → StoodOrAsks old i p es j) → StoodOrAsks old i p (e ∷ es) j
-      by (inl k) rest = first (under_one j e k)
+      by : (now e ≡ true) ⊎ (list_any now es ≡ true) → (list_any now es ≡ true → WasOr (list_any was es) here (list_any asks es))
+          → WasOr (was e || list_any was es) here (asks e || list_any asks es)
+      by (inl k) rest = first (each e k)
       by (inr k) rest = others (rest k)
 
-module _ (old new : ScopeIndex) (i : ℕ) (p : PolicyView) where
-  -- under entities that it is bound to
-  pub only_under : (ns : List EntityName) → new.rest.items ≡ old.rest.items → Extends old.groups.entries new.groups.entries ns i → IsBoundTo p ns
-      → (es : List EntityName) (j : ℕ) → is_looked_up new es j ≡ true → (is_looked_up old es j || (j == i && is_looked_at es p)) ≡ true
-  only_under ns e more bound es j h = by (or_cases _ _ h)
+-- no position is looked up that was not, but the new one for what the policy is looked at for
+module _ (old new : ScopeIndex) (i : ℕ) (p : PolicyView)
+    (rest : (j : ℕ) → has_position j new.rest.items ≡ true → WasOr (has_position j old.rest.items) (j == i) (is_in_rest p))
+    (entities : (j : ℕ) (e : EntityName) → has_position j (under_entity new e) ≡ true → WasOr (has_position j (under_entity old e)) (j == i) (asks_for e p))
+    (types : (j : ℕ) (t : Text) → has_position j (under_type new t) ≡ true → WasOr (has_position j (under_type old t)) (j == i) (asks_for_type t p)) where
+  pub only_these : (es : List EntityName) (j : ℕ) → is_looked_up new es j ≡ true → (is_looked_up old es j || (j == i && is_looked_at es p)) ≡ true
+  only_these es j h = by (or_cases _ _ h)
     where
-      any : StoodOrAsks old.groups.entries i p es j → (is_looked_up old es j || (j == i && is_looked_at es p)) ≡ true
-      any (inl k) = or_left _ _ (or_right _ _ k)
-      any (inr k) = or_right _ _ (and_from _ _ k.0 (or_right _ _ k.1))
+      of_rest : WasOr (has_position j old.rest.items) (j == i) (is_in_rest p) → (is_looked_up old es j || (j == i && is_looked_at es p)) ≡ true
+      of_rest (inl k) = or_left _ _ (or_left _ _ k)
+      of_rest (inr k) = or_right _ _ (and_from _ _ k.0 (or_left _ _ k.1))
 
-      by : (has_position j new.rest.items ≡ true) ⊎ (list_any (λ x. has_position j (standing_under new.groups.entries x)) es ≡ true)
+      of_entities : WasOr (list_any (λ e. has_position j (under_entity old e)) es) (j == i) (list_any (λ e. asks_for e p) es)
           → (is_looked_up old es j || (j == i && is_looked_at es p)) ≡ true
-      by (inl k) = or_left _ _ (or_left _ _ (sym (ap (has_position j) e) ∙ k))
-      by (inr k) =
-          any (under_any old.groups.entries new.groups.entries ns i more j p (bound_is_asked_for p ns bound) es k)
+      of_entities (inl k) = or_left _ _ (or_right _ _ (or_left _ _ k))
+      of_entities (inr k) = or_right _ _ (and_from _ _ k.0 (or_right _ _ (or_left _ _ k.1)))
+
+      of_types : WasOr (list_any (λ e. has_position j (under_type old e.type_name)) es) (j == i) (list_any (λ e. asks_for_type e.type_name p) es)
+          → (is_looked_up old es j || (j == i && is_looked_at es p)) ≡ true
+      of_types (inl k) = or_left _ _ (or_right _ _ (or_right _ _ k))
+      of_types (inr k) = or_right _ _ (and_from _ _ k.0 (or_right _ _ (or_right _ _ k.1)))
+
+      named : (list_any (λ e. has_position j (under_entity new e)) es ≡ true) ⊎ (list_any (λ e. has_position j (under_type new e.type_name)) es ≡ true)
+          → (is_looked_up old es j || (j == i && is_looked_at es p)) ≡ true
+      named (inl k) =
+          of_entities (of_any (λ e. has_position j (under_entity new e)) (λ e. has_position j (under_entity old e)) (λ e. asks_for e p) (j == i) (entities j) es k)
+      named (inr k) =
+          of_types (of_any (λ (e : EntityName). has_position j (under_type new e.type_name)) (λ e. has_position j (under_type old e.type_name)) (λ e. asks_for_type e.type_name p) (j == i) (λ e. types j e.type_name) es k)
+
+      by : (has_position j new.rest.items ≡ true)
+          ⊎ ((list_any (λ e. has_position j (under_entity new e)) es || list_any (λ e. has_position j (under_type new e.type_name)) es) ≡ true)
+          → (is_looked_up old es j || (j == i && is_looked_at es p)) ≡ true
+      by (inl k) = of_rest (rest j k)
+      by (inr k) = named (or_cases _ _ k)
 
 -- ---- of all policies of a list
 
-nothing_under : (i : ℕ) (es : List EntityName) → list_any (λ e. has_position i (standing_under [] e)) es ≡ true → ⊥
-nothing_under i [] h = false_is_not_true h
-nothing_under i (e ∷ es) h = nothing_under i es h
+none_of : {E : Type 0} (es : List E) → list_any (λ e. false) es ≡ true → ⊥
+none_of [] h = false_is_not_true h
+none_of (e ∷ es) h = none_of es h
 
-pub nothing_filed : (index : ScopeIndex) (ps : List Policy) → index.rest.items ≡ [] → index.groups.entries ≡ [] → AreFiledRight index ps
-nothing_filed index ps e f es i h = absurd (by (or_cases _ _ h))
+pub nothing_filed : (index : ScopeIndex) (ps : List Policy) → index.rest.items ≡ [] → index.groups.entries ≡ [] → index.types.entries ≡ [] → AreFiledRight index ps
+nothing_filed index ps e f g es i h = absurd (by (or_cases _ _ h))
   where
-    by : (has_position i index.rest.items ≡ true) ⊎ (list_any (λ x. has_position i (standing_under index.groups.entries x)) es ≡ true) → ⊥
+    named : (list_any (λ x. has_position i (under_entity index x)) es ≡ true) ⊎ (list_any (λ x. has_position i (under_type index x.type_name)) es ≡ true) → ⊥
+    named (inl k) =
+        none_of es (sym (ap (λ (gs : Groups). list_any (λ x. has_position i (standing_under gs x)) es) f) ∙ k)
+    named (inr k) =
+        none_of es (sym (ap (λ (ts : TypeGroups). list_any (λ (x : EntityName). has_position i (standing_under_type ts x.type_name)) es) g) ∙ k)
+
+    by : (has_position i index.rest.items ≡ true)
+        ⊎ ((list_any (λ x. has_position i (under_entity index x)) es || list_any (λ x. has_position i (under_type index x.type_name)) es) ≡ true) → ⊥
     by (inl k) = false_is_not_true (sym (ap (has_position i) e) ∙ k)
-    by (inr k) =
-        nothing_under i es (sym (ap (λ (gs : Groups). list_any (λ x. has_position i (standing_under gs x)) es) f) ∙ k)
+    by (inr k) = named (or_cases _ _ k)
 
 module _ (test : Policy → Bool) (p : Policy) where
   passes_before : (ps : List Policy) (i : ℕ) → passes test (slice_get ps i) ≡ true → passes test (slice_get (ps ++ p ∷ []) i) ≡ true
@@ -107,29 +148,6 @@ filed_more old new ps qs p n e count before more es i h =
         let at : i ≡ length ps = eqb-true i n both.0 ∙ count in
         ap (λ j. passes (λ q. is_looked_at es (policy_view q)) (slice_get (ps ++ p ∷ []) j)) at
         ∙ passes_last (λ q. is_looked_at es (policy_view q)) p ps both.1
-
--- ---- what is looked up for entities
-
--- each position is looked up for them, and those that are left are of them
-pub record AreLookedUpSoFar (index : ScopeIndex) (es left : List EntityName) (ns : List ℕ) : Type 0 where
-  pub looked_up : (j : ℕ) → has_position j ns ≡ true → is_looked_up index es j ≡ true
-  pub of_these : (test : EntityName → Bool) → list_any test left ≡ true → list_any test es ≡ true
-
-pub looked_up_more : (index : ScopeIndex) (es left rest : List EntityName) (n : EntityName) (ns ms : List ℕ) → left ≡ n ∷ rest → ms ≡ ns ++ standing_under index.groups.entries n → AreLookedUpSoFar index es left ns → AreLookedUpSoFar index es rest ms
-looked_up_more index es left rest n ns ms e f before = record {
-  looked_up = λ j h. by j (or_cases _ _ (sym (list_any-append (λ k. j == k) ns (standing_under index.groups.entries n)) ∙ sym (ap (has_position j) f) ∙ h));
-  of_these = λ test h. before.of_these test (ap (list_any test) e ∙ or_right (test n) (list_any test rest) h);
-}
-  where
-    by : (j : ℕ) → (has_position j ns ≡ true) ⊎ (has_position j (standing_under index.groups.entries n) ≡ true) → is_looked_up index es j ≡ true
-    by j (inl h) = before.looked_up j h
-    by j (inr h) =
-        or_right _ _ (before.of_these (λ d. has_position j (standing_under index.groups.entries d))
-        (ap (list_any (λ d. has_position j (standing_under index.groups.entries d))) e
-        ∙ or_left _ (list_any (λ d. has_position j (standing_under index.groups.entries d)) rest) h))
-
-pub looked_up_all : (index : ScopeIndex) (es left : List EntityName) (ns ms : List ℕ) → ((j : ℕ) → has_position j ms ≡ has_position j ns) → AreLookedUpSoFar index es left ns → ReachesNoOther index es ms
-looked_up_all index es left ns ms same before i h = before.looked_up i (sym (same i) ∙ h)
 
 -- ---- what is picked
 

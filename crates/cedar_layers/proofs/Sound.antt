@@ -23,7 +23,7 @@ use Rattle.cedar_layers.specs.declared.policies.entities.Entities.{Entities}
 use Rattle.cedar_layers.specs.declared.policies.entities.Entity.{Entity}
 use Rattle.cedar_layers.specs.Mapped.{IsSoundMapping}
 use Rattle.cedar_layers.specs.Parts.{parts_view, is_restricted_part, are_restricted_parts}
-use Rattle.cedar_layers.specs.Stores.{entity_view, store_view}
+use Rattle.cedar_layers.specs.Stores.{entity_view, store_view, stored_entity}
 use Rattle.cedar_layers.proofs.Parts.{option_map-lookup, restricted_at}
 use Rattle.cedar_model.proofs.Injections.{some_inj, none_is_not_some}
 
@@ -66,4 +66,4 @@ found_entity_is_sound (Some y) x k p e = subst (IsSoundAt k p) (some_inj e) (ent
 -- each stored value is sound, and each stored residual is restricted
 pub store_is_sound : (s : Entities) → EachStored IsSoundPart (store_view s)
 store_is_sound s n x k p e =
-    found_entity_is_sound (lookup (λ (u : EntityUID). entity_eq n (uid_name u)) s.entities.entries) x k p e
+    found_entity_is_sound (stored_entity s n) x k p e

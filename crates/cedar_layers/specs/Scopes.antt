@@ -1,19 +1,21 @@
--- What scopes ask of principal, action and resource, and the index of policies by the entities that their scopes name.
+-- What scopes ask of principal, action and resource, and the index of policies by the entities that their scopes name
+-- and the types that they test for.
 use Rattle.std.specs.Prelude.{◌≡◌, ◌⊎◌, ℕ, map, option_map, ◌/◌, ◌==◌, nat_lt, Bool, true, false, cond, not, ◌&&◌, ◌||◌, List, [], ◌∷◌, ◌++◌, length, Option, None, Some, is_some, slice_get}
 use Rattle.std.specs.List.{list_any, list_all}
 use Rattle.std.specs.Map.{lookup}
 use Rattle.std.specs.declared.alloc.Global.{Global}
 use Rattle.std.specs.declared.vec.Vec.{Vec}
 use denote.Ref.{Bor}
-use Rattle.cedar_model.specs.Terms.{EntityName, bool_literal, entity_literal}
+use Rattle.cedar_model.specs.Terms.{Text, EntityName, bool_literal, entity_literal}
 use Rattle.cedar_model.specs.Terms.{principal, action, resource, Term, literal, variable, slot, both, binary}
 use Rattle.cedar_model.specs.Terms.{is_of_type, set_of, Terms, no_terms, one_term}
 use Rattle.cedar_model.specs.World.{Slots}
 use Rattle.cedar_model.specs.Terms.{BinaryOperator, eq_operator, in_operator}
-use Rattle.cedar_model.specs.Outcomes.{entity_eq}
+use Rattle.cedar_model.specs.Outcomes.{text_eq, entity_eq}
 use Rattle.cedar_model.specs.Settings.{is_among}
+use Rattle.cedar_names.specs.declared.names.EntityType.{EntityType}
 use Rattle.cedar_names.specs.declared.names.EntityUID.{EntityUID}
-use Rattle.cedar_names.specs.Names.{uid_name}
+use Rattle.cedar_names.specs.Names.{type_text, uid_name}
 use Rattle.cedar_layers.specs.declared.policies.policy.Policy.{Policy}
 use Rattle.cedar_layers.specs.declared.policies.scope_index.ScopeIndex.{ScopeIndex}
 use Rattle.cedar_layers.specs.Policies.{PolicyView, policy_view}
@@ -75,6 +77,11 @@ unfoldable pub is_type_test : Term → Bool
 is_type_test (is_of_type t n) = is_entity_variable t
 is_type_test t = false
 
+-- the type T of such a test
+unfoldable pub asked_type : Term → Option Text
+asked_type (is_of_type t n) = cond (is_entity_variable t) (Some n) None
+asked_type t = None
+
 -- the same of a constraint: such a comparison, alone or after such a test
 unfoldable pub asked_entities : Slots → Term → Option (List EntityName)
 asked_entities ss (both t u) = cond (is_type_test t) (compared_entities ss u) None
@@ -102,17 +109,41 @@ resource_bound p =
     cond (is_told p.slots p.principal_constraint && is_told p.slots p.action_constraint)
     (asked_entities p.slots p.resource_constraint) None
 
+-- the type that the principal must be of, where the constraint on it is a test of the type alone; the same of action and
+-- resource, where the constraints before theirs are booleans
+abbrev pub principal_type_bound : PolicyView → Option Text
+principal_type_bound p = asked_type p.principal_constraint
+
+abbrev pub action_type_bound : PolicyView → Option Text
+action_type_bound p = cond (is_told p.slots p.principal_constraint) (asked_type p.action_constraint) None
+
+abbrev pub resource_type_bound : PolicyView → Option Text
+resource_type_bound p =
+    cond (is_told p.slots p.principal_constraint && is_told p.slots p.action_constraint)
+    (asked_type p.resource_constraint) None
+
 -- the scope asks that one of the three is one of these entities or is in one
 abbrev pub IsBoundTo : PolicyView → List EntityName → Type 0
 IsBoundTo p es = (principal_bound p ≡ Some es) ⊎ ((action_bound p ≡ Some es) ⊎ (resource_bound p ≡ Some es))
+
+-- it asks that one of the three is of this type
+abbrev pub IsBoundToType : PolicyView → Text → Type 0
+IsBoundToType p t =
+    (principal_type_bound p ≡ Some t) ⊎ ((action_type_bound p ≡ Some t) ⊎ (resource_type_bound p ≡ Some t))
 
 -- one of the first is among the second
 abbrev pub have_common : List EntityName → List EntityName → Bool
 have_common ds es = list_any (λ d. is_among d es) ds
 
--- it asks so of entities none of which is one of these
+-- one of these entities is of this type
+abbrev pub is_type_among : Text → List EntityName → Bool
+is_type_among t es = list_any (λ e. text_eq e.type_name t) es
+
+-- it asks so of entities none of which is one of these, or for a type that none of these is of
 abbrev pub IsBoundElsewhere : List EntityName → PolicyView → Type 0
-IsBoundElsewhere es p = (ds : List EntityName) × IsBoundTo p ds × (have_common ds es ≡ false)
+IsBoundElsewhere es p =
+    ((ds : List EntityName) × IsBoundTo p ds × (have_common ds es ≡ false))
+    ⊎ ((t : Text) × IsBoundToType p t × (is_type_among t es ≡ false))
 
 -- entities are asked for, and this is one of them
 abbrev pub is_one_of : EntityName → Option (List EntityName) → Bool
@@ -124,13 +155,34 @@ abbrev pub asks_for : EntityName → PolicyView → Bool
 asks_for e p =
     is_one_of e (principal_bound p) || (is_one_of e (action_bound p) || is_one_of e (resource_bound p))
 
--- it asks so of no entity
-abbrev pub is_in_rest : PolicyView → Bool
-is_in_rest p = not (is_some (principal_bound p) || (is_some (action_bound p) || is_some (resource_bound p)))
+-- a type is asked for, and it is this one
+abbrev pub is_this_type : Text → Option Text → Bool
+is_this_type t None = false
+is_this_type t (Some u) = text_eq t u
 
--- it asks so of none, or of one of these
+-- the scope asks that principal, action or resource is of this type, and of that one for no more
+abbrev pub asks_for_type : Text → PolicyView → Bool
+asks_for_type t p =
+    is_this_type t (principal_type_bound p)
+    || (is_this_type t (action_type_bound p) || is_this_type t (resource_type_bound p))
+
+-- it asks so for no entity
+abbrev pub asks_for_no_entity : PolicyView → Bool
+asks_for_no_entity p = not (is_some (principal_bound p) || (is_some (action_bound p) || is_some (resource_bound p)))
+
+-- it asks so for no type
+abbrev pub asks_for_no_type : PolicyView → Bool
+asks_for_no_type p =
+    not (is_some (principal_type_bound p) || (is_some (action_type_bound p) || is_some (resource_type_bound p)))
+
+-- it asks for neither
+abbrev pub is_in_rest : PolicyView → Bool
+is_in_rest p = asks_for_no_entity p && asks_for_no_type p
+
+-- it asks for neither, or for one of these entities, or for the type of one
 abbrev pub is_looked_at : List EntityName → PolicyView → Bool
-is_looked_at es p = is_in_rest p || list_any (λ e. asks_for e p) es
+is_looked_at es p =
+    is_in_rest p || (list_any (λ e. asks_for e p) es || list_any (λ e. asks_for_type e.type_name p) es)
 
 -- so does each of these policies
 abbrev pub AreLookedAt : List EntityName → List Policy → Type 0
@@ -156,6 +208,15 @@ names_at us = map (λ u. uid_name u.now) us
 abbrev pub names_found : Option (Vec (Bor EntityUID) Global) → Option (List EntityName)
 names_found o = option_map (λ v. names_at v.items) o
 
+-- the text of a type that was found, if one was
+abbrev pub type_found : Option (Bor EntityType) → Option Text
+type_found o = option_map (λ t. type_text t.now) o
+
+-- the first type, or else the second
+abbrev pub first_type : Option Text → Option Text → Option Text
+first_type (Some t) o = Some t
+first_type None o = o
+
 -- what the resource asks for, or else what the action asks for; nothing, where the action asks for nothing and its
 -- constraint is no boolean
 abbrev pub resource_or_action :
@@ -174,6 +235,10 @@ is_mostly_rest index count = nat_lt (count / 2) (length index.rest.items)
 abbrev pub Groups : Type 0
 Groups = List (EntityUID × Vec ℕ Global)
 
+-- positions under the types that scopes test for
+abbrev pub TypeGroups : Type 0
+TypeGroups = List (EntityType × Vec ℕ Global)
+
 abbrev pub items_or_none : Option (Vec ℕ Global) → List ℕ
 items_or_none None = []
 items_or_none (Some v) = v.items
@@ -181,6 +246,17 @@ items_or_none (Some v) = v.items
 -- those under an entity
 abbrev pub standing_under : Groups → EntityName → List ℕ
 standing_under es n = items_or_none (lookup (λ (u : EntityUID). entity_eq n (uid_name u)) es)
+
+-- those under a type
+abbrev pub standing_under_type : TypeGroups → Text → List ℕ
+standing_under_type ts t = items_or_none (lookup (λ (u : EntityType). text_eq t (type_text u)) ts)
+
+-- those under the entity, and those under its type
+abbrev pub under_entity : ScopeIndex → EntityName → List ℕ
+under_entity index e = standing_under index.groups.entries e
+
+abbrev pub under_type : ScopeIndex → Text → List ℕ
+under_type index t = standing_under_type index.types.entries t
 
 abbrev pub has_position : ℕ → List ℕ → Bool
 has_position i ns = list_any (λ j. i == j) ns
@@ -190,13 +266,28 @@ abbrev pub stands_under_each : Groups → ℕ → Option (List EntityName) → B
 stands_under_each es i None = false
 stands_under_each es i (Some ns) = list_all (λ n. has_position i (standing_under es n)) ns
 
--- the policy at this position is in the rest, or stands under each of the entities that it is bound to
-abbrev pub is_placed : ScopeIndex → ℕ → PolicyView → Bool
-is_placed index i p =
-    has_position i index.rest.items
-    || (stands_under_each index.groups.entries i (principal_bound p)
+-- it is under this type, if there is one
+abbrev pub stands_under_type : TypeGroups → ℕ → Option Text → Bool
+stands_under_type ts i None = false
+stands_under_type ts i (Some t) = has_position i (standing_under_type ts t)
+
+-- the position stands under each of the entities that the policy is bound to
+abbrev pub is_under_entities : ScopeIndex → ℕ → PolicyView → Bool
+is_under_entities index i p =
+    stands_under_each index.groups.entries i (principal_bound p)
     || (stands_under_each index.groups.entries i (action_bound p)
-    || stands_under_each index.groups.entries i (resource_bound p)))
+    || stands_under_each index.groups.entries i (resource_bound p))
+
+-- it stands under a type that the policy is bound to
+abbrev pub is_under_type : ScopeIndex → ℕ → PolicyView → Bool
+is_under_type index i p =
+    stands_under_type index.types.entries i (principal_type_bound p)
+    || (stands_under_type index.types.entries i (action_type_bound p)
+    || stands_under_type index.types.entries i (resource_type_bound p))
+
+-- the policy at this position is in the rest, or stands under each of the entities that it is bound to, or under a type
+abbrev pub is_placed : ScopeIndex → ℕ → PolicyView → Bool
+is_placed index i p = has_position i index.rest.items || (is_under_entities index i p || is_under_type index i p)
 
 -- so is each of these policies
 abbrev pub ArePlaced : ScopeIndex → List Policy → Type 0
@@ -205,17 +296,23 @@ ArePlaced index ps = (i : ℕ) (p : Policy) → slice_get ps i ≡ Some p → is
 pub ArePlaced-prop : (index : ScopeIndex) (ps : List Policy) (x y : ArePlaced index ps) → x ≡ y
 ArePlaced-prop index ps x y = λ j i p e. Bool-set _ _ (x i p e) (y i p e) j
 
--- the position is in the rest, or stands under one of these entities
+-- the position is in the rest, or stands under one of these entities or under the type of one
 abbrev pub is_looked_up : ScopeIndex → List EntityName → ℕ → Bool
 is_looked_up index es i =
-    has_position i index.rest.items || list_any (λ e. has_position i (standing_under index.groups.entries e)) es
+    has_position i index.rest.items
+    || (list_any (λ e. has_position i (under_entity index e)) es
+    || list_any (λ e. has_position i (under_type index e.type_name)) es)
+
+-- these are the positions that are looked up for these entities
+abbrev pub AreLookedUp : ScopeIndex → List EntityName → List ℕ → Type 0
+AreLookedUp index es ns = (i : ℕ) → has_position i ns ≡ is_looked_up index es i
 
 -- there is a policy, and it passes the test
 abbrev pub passes : (Policy → Bool) → Option Policy → Bool
 passes test None = false
 passes test (Some p) = test p
 
--- each position is in the rest, or under an entity, only where one of these policies stands that is looked at for that
+-- each position is in the rest, or under an entity or a type, only where one of these policies stands that is looked at for that
 abbrev pub AreFiledRight : ScopeIndex → List Policy → Type 0
 AreFiledRight index ps =
     (es : List EntityName) (i : ℕ) → is_looked_up index es i ≡ true
@@ -238,6 +335,25 @@ Extends old new ns i =
     (j : ℕ) (m : EntityName) → has_position j (standing_under new m)
     ≡ (has_position j (standing_under old m) || (j == i && is_among m ns))
 
+-- what stands under types is what did, and this position under this one
+abbrev pub ExtendsType : TypeGroups → TypeGroups → Text → ℕ → Type 0
+ExtendsType old new t i =
+    (j : ℕ) (u : Text) → has_position j (standing_under_type new u)
+    ≡ (has_position j (standing_under_type old u) || (j == i && text_eq u t))
+
+-- to the first positions those are added that stand under each of these entities
+abbrev pub AddsEach : (EntityName → List ℕ) → List EntityName → List ℕ → List ℕ → Type 0
+AddsEach under es old new =
+    (j : ℕ) → has_position j new ≡ (has_position j old || list_any (λ e. has_position j (under e)) es)
+
+-- a type that was looked at, if one was, is this one
+abbrev pub is_last_type : Text → Option (Bor EntityType) → Bool
+is_last_type t o = is_this_type t (type_found o)
+
+-- those under a type, unless it was looked at last
+abbrev pub under_other_type : ScopeIndex → Option (Bor EntityType) → Text → List ℕ
+under_other_type index last t = cond (is_last_type t last) [] (under_type index t)
+
 -- each position that is not among these is that of a policy that is bound elsewhere than to these entities
 abbrev pub ReachesAll : ScopeIndex → List EntityName → List ℕ → Type 0
 ReachesAll index es ns =
@@ -248,10 +364,6 @@ abbrev pub ArePicked : List ℕ → List Policy → List Policy → Type 0
 ArePicked ns all some =
     (index : ScopeIndex) (es : List EntityName) → ArePlaced index all → ReachesAll index es ns
     → AreWithinReach es all some
-
--- each of these positions is looked up for these entities
-abbrev pub ReachesNoOther : ScopeIndex → List EntityName → List ℕ → Type 0
-ReachesNoOther index es ns = (i : ℕ) → has_position i ns ≡ true → is_looked_up index es i ≡ true
 
 -- where at each of these positions a policy stands that passes a test, so do all of some
 abbrev pub AreOfPositions : List ℕ → List Policy → List Policy → Type 0

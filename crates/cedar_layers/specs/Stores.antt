@@ -1,11 +1,15 @@
 -- Stores of entities as plain data.
-use Rattle.std.specs.Prelude.{◌≡◌, ⊤, Bool, if◌then◌else◌, List, [], ◌∷◌, map, Option, None, Some, option_map}
+use Rattle.std.specs.Borrow.{Bor}
+use Rattle.std.specs.BTreeMap.{BTreeMap}
+use Rattle.std.specs.Prelude.{◌≡◌, ⊤, Bool, if◌then◌else◌, List, [], ◌∷◌, map, Option, None, Some, option_map, option_copied}
 use Rattle.std.specs.Map.{lookup}
+use Rattle.std.specs.Option.{option_or}
 use Rattle.std.specs.Rc.{rc_str_bytes}
 use Rattle.cedar_model.specs.Terms.{EntityName, unknown}
 use Rattle.cedar_model.specs.Outcomes.{entity_eq}
 use Rattle.cedar_model.specs.Settings.{StoredEntity, Store, Found, found, not_there, not_known, missing_entity}
 use Rattle.std.specs.declared.alloc.Global.{Global}
+use Rattle.std.specs.declared.rc.Rc.{Rc}
 use Rattle.std.specs.declared.rc.RcStr.{RcStr}
 use Rattle.cedar_values.specs.declared.partial_value.PartialValue.{PartialValue}
 use Rattle.cedar_names.specs.declared.names.EntityUID.{EntityUID}
@@ -92,17 +96,34 @@ store_of es is_partial = record { entity = with_entities no_entities es; is_part
 abbrev pub standing : List (EntityUID × Entity) → Standing
 standing es n = lookup (λ (u : EntityUID). entity_eq n (uid_name u)) es
 
+-- the first and, of a name that it lacks, the second
+abbrev pub or_below : Standing → Standing → Standing
+or_below f g n = option_or (f n) (g n)
+
+-- which entities stand in the entries of several maps, of one name that of the first map
+abbrev pub standing_in : List (List (EntityUID × Entity)) → Standing
+standing_in [] = none_stands
+standing_in (es ∷ ess) = or_below (standing es) (standing_in ess)
+
+-- the entries of the maps of a store, those that are asked first first
+abbrev pub layers_of : Entities → List (List (EntityUID × Entity))
+layers_of s = map (λ (r : Rc (BTreeMap EntityUID Entity) Global). r.value.entries) s.layers.items
+
 -- the entity itself that a store has of this name
 abbrev pub stored_entity : Entities → Standing
-stored_entity s = standing s.entities.entries
-
--- what the entries of a map hold
-abbrev pub held : List (EntityUID × Entity) → Held
-held es n = option_map entity_view (standing es n)
+stored_entity s = standing_in (layers_of s)
 
 -- a store as plain data
 abbrev pub store_view : Entities → Store
-store_view s = record { entity = held s.entities.entries; is_partial = s.partial }
+store_view s = record { entity = λ n. option_map entity_view (stored_entity s n); is_partial = s.partial }
+
+-- which entities a map shows
+abbrev pub shown : List (EntityUID × Bor Entity) → Standing
+shown es n = option_copied (lookup (λ (u : EntityUID). entity_eq n (uid_name u)) es)
+
+-- the same, but where none stands under this name, this entity
+abbrev pub with_below : Standing → EntityName → Entity → Standing
+with_below before m e n = option_or (before n) (if entity_eq n m then Some e else None)
 
 -- what a look-up answered
 abbrev pub found_view : Dereference → Found

@@ -1,7 +1,7 @@
 -- Lists that are made one after another.
-use Rattle.std.proofs.Common.{◌≡◌, Bool, ◌||◌, List, [], ◌∷◌, ◌++◌, map, refl, sym, ap, ◌∙◌, append_assoc, drop}
+use Rattle.std.proofs.Common.{◌≡◌, Bool, ◌||◌, ◌&&◌, List, [], ◌∷◌, ◌++◌, map, refl, sym, ap, ◌∙◌, append_assoc, drop}
 use Rattle.std.proofs.lemmas.List.{map-append}
-use Rattle.std.specs.List.{AllZip, list_any}
+use Rattle.std.specs.List.{AllZip, list_any, list_all}
 use Rattle.cedar_model.specs.Terms.{EntityName}
 use Rattle.cedar_names.specs.declared.names.EntityUID.{EntityUID}
 use Rattle.cedar_names.specs.Names.{uid_name}
@@ -27,6 +27,10 @@ all_made made left all e h = sym (append_nil made) ∙ ap (λ ys. made ++ ys) (s
 pub any_map : {A B : Type 0} (f : A → B) (test : B → Bool) (xs : List A) → list_any (λ x. test (f x)) xs ≡ list_any test (map f xs)
 any_map f test [] = refl
 any_map f test (x ∷ xs) = ap (λ b. test (f x) || b) (any_map f test xs)
+
+pub all_map : {A B : Type 0} (f : A → B) (test : B → Bool) (xs : List A) → list_all (λ x. test (f x)) xs ≡ list_all test (map f xs)
+all_map f test [] = refl
+all_map f test (x ∷ xs) = ap (λ b. test (f x) && b) (all_map f test xs)
 
 -- the names of copies are those of the uids
 pub names_copied : (Copies : EntityUID → EntityUID → Type 0) (us vs : List EntityUID) → AllZip Copies us vs

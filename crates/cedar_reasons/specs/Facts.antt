@@ -2,6 +2,7 @@
 use Rattle.std.specs.Prelude.{Bool, true, false, ◌&&◌, List, [], ◌∷◌, ◌++◌, map}
 use Rattle.std.specs.List.{list_any}
 use Rattle.std.specs.Rc.{rc_str_bytes}
+use denote.Ref.{Bor}
 use Rattle.cedar_model.specs.Terms.{Text, EntityName}
 use Rattle.cedar_model.specs.Outcomes.{text_eq, entity_eq}
 use Rattle.cedar_model.specs.Settings.{names_of}
@@ -83,6 +84,10 @@ abbrev pub is_one_of : KnownFact → List Fact → Bool
 is_one_of f fs = list_any (λ x. is_same f (fact_view x)) fs
 
 -- ---- all of them
+
+-- the entities that are lent
+abbrev pub lent : List (Bor Entity) → List Entity
+lent es = map (λ e. e.now) es
 
 -- of an entity: that it is as it is stored, and each attribute's value
 abbrev pub facts_of_entity : Entity → List KnownFact

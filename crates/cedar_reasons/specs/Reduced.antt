@@ -1,6 +1,7 @@
 -- A request and a store of which these facts alone are kept.
 use Rattle.std.specs.Prelude.{Bool, true, false, cond, not, ◌&&◌, List, map, Option, Some, None, option_map}
 use Rattle.std.specs.List.{list_all}
+use denote.Ref.{Bor}
 use Rattle.cedar_model.specs.Terms.{Text, EntityName, unknown}
 use Rattle.cedar_model.specs.Failures.{PartialValue, residual}
 use Rattle.cedar_model.specs.Settings.{Entry, known_entry, unknown_entry, ContextPart, absent_context, RequestPart}
@@ -55,6 +56,10 @@ kept_entity false fs n o = None
 -- whether each of these entities is kept
 abbrev pub keeps_each : List KnownFact → List Entity → Bool
 keeps_each fs es = list_all (λ e. is_kept fs (of_entity (entity_name e))) es
+
+-- the same of entities as they are lent
+abbrev pub keeps_lent : List KnownFact → List (Bor Entity) → Bool
+keeps_lent fs es = list_all (λ e. is_kept fs (of_entity (entity_name e.now))) es
 
 -- and that there is no other
 abbrev pub is_whole : List KnownFact → List Entity → Bool

@@ -6,8 +6,8 @@ ghost use Rattle.cedar_names.specs.Names.{uid_name};
 ghost use Rattle.cedar_values.specs.Residuals.{partial_view};
 ghost use Rattle.cedar_layers.specs.Parts.{parts_view, found_part, is_restricted_part, are_restricted_parts};
 ghost use Rattle.cedar_layers.specs.Stores.{entity_name, entity_view, store_view, no_entities, with_entities};
-ghost use Rattle.cedar_reasons.specs.Facts.{facts_view, is_kept, of_entity, of_attribute};
-ghost use Rattle.cedar_reasons.specs.Reduced.{reduced_part, reduced_entity, reduced_store, is_whole, keeps_each};
+ghost use Rattle.cedar_reasons.specs.Facts.{facts_view, lent, is_kept, of_entity, of_attribute};
+ghost use Rattle.cedar_reasons.specs.Reduced.{reduced_part, reduced_entity, reduced_store, is_whole, keeps_each, keeps_lent};
 ghost use Rattle.cedar_reasons.specs.Kept.{value_at, put_at, are_kept, with_kept};
 
 use crate::facts::{Fact, is_kept};
@@ -24,24 +24,30 @@ type Parts = BTreeMap<RcStr, PartialValue>;
 // The store of the entities that are kept; it is partial, unless it is whole.
 pub(crate) fn reduced_store(
     alloc: Global,
-    entities: &[Entity],
+    entities: &[&Entity],
     facts: &[Fact<'_>],
 ) -> Result<Entities, AllocError>
-    ensures { IfOk result (λ s. store_view s ≡ reduced_store (facts_view facts.now) entities.now) }
+    ensures { IfOk result (λ s. store_view s ≡ reduced_store (facts_view facts.now) (lent entities.now)) }
 {
     let kept = kept_entities(alloc, entities, facts)?;
     Ok(Entities::with(alloc, kept, !is_whole(entities, facts))?)
 }
 
 // Whether each entity is kept, and that there is no other.
-fn is_whole(entities: &[Entity], facts: &[Fact<'_>]) -> bool
-    ensures { result ≡ is_whole (facts_view facts.now) entities.now }
+fn is_whole(entities: &[&Entity], facts: &[Fact<'_>]) -> bool
+    ensures { result ≡ is_whole (facts_view facts.now) (lent entities.now) }
 {
     is_kept(facts, Fact::NoOtherEntity) && keeps_each(entities, facts)
 }
 
-fn keeps_each(entities: &[Entity], facts: &[Fact<'_>]) -> bool
-    ensures { result ≡ keeps_each (facts_view facts.now) entities.now }
+fn keeps_each(entities: &[&Entity], facts: &[Fact<'_>]) -> bool
+    ensures { result ≡ keeps_each (facts_view facts.now) (lent entities.now) }
+{
+    keeps_lent(entities, facts)
+}
+
+fn keeps_lent(entities: &[&Entity], facts: &[Fact<'_>]) -> bool
+    ensures { result ≡ keeps_lent (facts_view facts.now) entities.now }
 {
     entities.iter().all(|entity| is_kept_entity(entity, facts))
 }
@@ -55,10 +61,10 @@ fn is_kept_entity(entity: &Entity, facts: &[Fact<'_>]) -> bool
 // The entities that are kept.
 fn kept_entities(
     alloc: Global,
-    entities: &[Entity],
+    entities: &[&Entity],
     facts: &[Fact<'_>],
 ) -> Result<Vec<Entity>, AllocError>
-    ensures { IfOk result (λ v. are_kept (facts_view facts.now) no_entities entities.now
+    ensures { IfOk result (λ v. are_kept (facts_view facts.now) no_entities (lent entities.now)
         ≡ with_entities no_entities v.items) }
 {
     let mut kept: Vec<Entity> = Vec::new(alloc);

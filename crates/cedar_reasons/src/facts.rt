@@ -6,6 +6,7 @@ ghost use Rattle.cedar_names.specs.Names.{uid_name};
 ghost use Rattle.cedar_layers.specs.Stores.{entity_name, entity_view};
 ghost use Rattle.cedar_reasons.specs.Facts.{fact_view, facts_view, is_principal, is_action, is_resource, is_context};
 ghost use Rattle.cedar_reasons.specs.Facts.{is_absence, is_entity, is_attribute, is_same, is_kept, is_one_of, every_fact};
+ghost use Rattle.cedar_reasons.specs.Facts.{lent};
 ghost use Rattle.cedar_reasons.specs.Facts.{facts_of_entity, of_attribute, no_entity_facts};
 
 use cedar_fallible::add_last;
@@ -35,8 +36,8 @@ pub enum Fact<'x> {
 
 /// Each fact of a request over the store of these entities: those of the request, that there is no other entity, and
 /// then entity by entity what is stored of it and each attribute's value. Refuses only if out of memory.
-pub fn all_facts<'x>(alloc: Global, entities: &'x [Entity]) -> Result<Vec<Fact<'x>>, AllocError>
-    ensures { IfOk result (λ v. facts_view v.items ≡ every_fact entities.now) }
+pub fn all_facts<'x>(alloc: Global, entities: &[&'x Entity]) -> Result<Vec<Fact<'x>>, AllocError>
+    ensures { IfOk result (λ v. facts_view v.items ≡ every_fact (lent entities.now)) }
 {
     let mut facts = request_facts(alloc)?;
     'entities: for entity in entities {
@@ -89,8 +90,8 @@ fn add_attribute<'x>(
     Ok(())
 }
 
-// Whether the fact is among these.
-pub(crate) fn is_kept(facts: &[Fact<'_>], wanted: Fact<'_>) -> bool
+/// Whether the fact is among these.
+pub fn is_kept(facts: &[Fact<'_>], wanted: Fact<'_>) -> bool
     ensures { result ≡ is_kept (facts_view facts.now) (fact_view wanted.entry) }
 {
     is_one_of(facts, wanted)

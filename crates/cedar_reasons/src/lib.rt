@@ -16,5 +16,6 @@ pub mod laws;
 mod names;
 mod requests;
 
-pub use facts::{Fact, all_facts};
+pub use facts::{Fact, all_facts, is_kept};
+pub use names::value_name;
 pub use requests::reduced;

@@ -20,10 +20,18 @@ pub(crate) fn unknown_value(
     ensures { IfOk result (λ p. partial_view p ≡
         residual (unknown (value_name (uid_name uid.now) (rc_str_bytes name.now)) None)) }
 {
+    let unknown = Unknown::new_untyped(value_name(alloc, uid, name)?);
+    Ok(PartialValue::Residual(ResidualExpr::new(Expr::unknown(unknown))))
+}
+
+/// The name of the unknown that stands for the value of the entity's attribute of this name, where it is left out: the
+/// attribute as it prints, and a question mark. Refuses only if out of memory.
+pub fn value_name(alloc: Global, uid: &EntityUID, name: &RcStr) -> Result<RcStr, AllocError>
+    ensures { IfOk result (λ t. rc_str_bytes t ≡ value_name (uid_name uid.now) (rc_str_bytes name.now)) }
+{
     let mut text = attribute_text(alloc, uid, name)?;
     text.push_str("?")?;
-    let unknown = Unknown::new_untyped(RcStr::from_string(text)?);
-    Ok(PartialValue::Residual(ResidualExpr::new(Expr::unknown(unknown))))
+    Ok(RcStr::from_string(text)?)
 }
 
 // The attribute as it prints: as the entity of this id whose type is the text of the entity.

@@ -2,7 +2,7 @@
 ghost use Rattle.std.specs.Prelude.{◌≡◌, false, option_copied, IfOk};
 ghost use Rattle.cedar_layers.specs.Stores.{store_view};
 ghost use Rattle.cedar_requests.specs.Requests.{request_view, entry_view, context_given};
-ghost use Rattle.cedar_reasons.specs.Facts.{facts_view};
+ghost use Rattle.cedar_reasons.specs.Facts.{facts_view, lent};
 ghost use Rattle.cedar_reasons.specs.Reduced.{reduced_request, reduced_store, kept_entry, kept_context};
 
 use crate::entities::reduced_store;
@@ -21,12 +21,12 @@ use std::alloc::{AllocError, Global};
 pub fn reduced(
     alloc: Global,
     request: &Request,
-    entities: &[Entity],
+    entities: &[&Entity],
     facts: &[Fact<'_>],
 ) -> Result<(Request, Entities), AllocError>
     ensures request { IfOk result (λ p. request_view p.0 ≡
         reduced_request (facts_view facts.now) (request_view request.now)) }
-    ensures store { IfOk result (λ p. store_view p.1 ≡ reduced_store (facts_view facts.now) entities.now) }
+    ensures store { IfOk result (λ p. store_view p.1 ≡ reduced_store (facts_view facts.now) (lent entities.now)) }
 {
     let request = reduced_request(request, facts)?;
     beside(request, reduced_store(alloc, entities, facts))

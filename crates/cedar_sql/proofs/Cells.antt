@@ -2,6 +2,7 @@
 use Rattle.std.specs.Prelude.{ℕ, ◌∷◌, [], pos, option_map, option_and_then, IfSome}
 use Rattle.std.specs.List.{AllByRecursion}
 use Rattle.std.specs.Rc.{rc_str_bytes}
+use Rattle.std.specs.Str.{is_utf8}
 use Rattle.std.proofs.Common.{◌≡◌, ◌∙◌, inl, inr, Bool, true, false, cond, List, Option, Some, None, refl, sym, ap, subst}
 use Rattle.std.proofs.lemmas.Bool.{and_parts}
 use Rattle.sqlite_value.specs.declared.value.Value.{Value}
@@ -28,10 +29,10 @@ use Rattle.cedar_sql.specs.declared.columns.Column.{Column}
 use Rattle.cedar_sql.specs.declared.columns.RowType.{RowType}
 use Rattle.cedar_sql.specs.declared.columns.RowType.TheVariants.{One, Several}
 use Rattle.cedar_sql.specs.declared.columns.Columns.{Columns}
-use Rattle.cedar_sql.specs.Columns.{id_in, held_value, cell, IsTyped, HoldsAttribute, Represents, same_operand}
+use Rattle.cedar_sql.specs.Columns.{id_in, utf8_text, held_value, cell, IsTyped, HoldsAttribute, Represents, same_operand}
 use Rattle.cedar_sql.specs.Columns.{is_attribute, column_at}
 use Rattle.cedar_sql.specs.Terms.{row_column}
-use Rattle.cedar_sql.specs.Sides.{Sort, bool_sort, long_sort, text_sort, entity_sort, Side, side, has_nul}
+use Rattle.cedar_sql.specs.Sides.{Sort, bool_sort, long_sort, text_sort, entity_sort, Side, side, has_nul, text_side}
 use Rattle.cedar_sql.specs.Sides.{literal_side, known_side, row_sort_of, column_sort, sorted, column_side}
 use Rattle.cedar_sql.specs.Sides.{operand_side}
 use Rattle.cedar_sql.proofs.Truths.{IsSide, IsThere}
@@ -61,12 +62,17 @@ module _ (row : Row) where
   long_cell (record_value fs) v is = absurd (cc)
   long_cell (extension_value t k) v is = absurd (cc)
 
+  utf8_cell : (q : Bool) (t : Text) (v : Value) → (q ≡ true → is_utf8 t ≡ true) → cond q (Some (sql.Text t)) None ≡ Some v
+      → IsThere row text_sort (tells (gives (plain (text_literal t)))) v
+  utf8_cell true t v utf8 is =
+      let same : v ≡ sql.Text t = cc in record { held = t; of_sort = utf8 refl; is_told = refl; is_value = same }
+  utf8_cell false t v utf8 is = absurd (cc)
+
   text_cell : (w : AbstractValue) (v : Value) → held_value types.String w ≡ Some v → IsThere row text_sort (tells (gives w)) v
   unfolding text_of
   text_cell (plain (bool_literal b)) v is = absurd (cc)
   text_cell (plain (long_literal n)) v is = absurd (cc)
-  text_cell (plain (text_literal t)) v is =
-      let same : v ≡ sql.Text t = cc in record { held = t; of_sort = tt; is_told = refl; is_value = same }
+  text_cell (plain (text_literal t)) v is = utf8_cell (is_utf8 t) t v (λ utf8. utf8) is
   text_cell (plain (entity_literal d)) v is = absurd (cc)
   text_cell (set_value vs) v is = absurd (cc)
   text_cell (record_value fs) v is = absurd (cc)
@@ -122,6 +128,14 @@ id_there : (q : Bool) (d : EntityName) (v : Value) → cond q (Some (sql.Text d.
 id_there true d v is = let same : v ≡ sql.Text d.id = cc in ap is_null same
 id_there false d v is = absurd (cc)
 
+utf8_there : (q : Bool) (t : Text) (v : Value) → cond q (Some (sql.Text t)) None ≡ Some v → is_null v ≡ false
+utf8_there true t v is = let same : v ≡ sql.Text t = cc in ap is_null same
+utf8_there false t v is = absurd (cc)
+
+text_there : (o : Option Text) (v : Value) → option_and_then utf8_text o ≡ Some v → is_null v ≡ false
+text_there None v is = absurd (cc)
+text_there (Some t) v is = utf8_there (is_utf8 t) t v is
+
 entity_there : (t : Text) (o : Option EntityName) (v : Value) → option_and_then (id_in t) o ≡ Some v → is_null v ≡ false
 entity_there t None v is = absurd (cc)
 entity_there t (Some d) v is = id_there (text_eq d.type_name t) d v is
@@ -129,7 +143,7 @@ entity_there t (Some d) v is = id_there (text_eq d.type_name t) d v is
 pub held_not_null : (t : ColumnType) (w : AbstractValue) (v : Value) → held_value t w ≡ Some v → is_null v ≡ false
 held_not_null types.Bool w v is = mapped_there (λ b. from_truth (Some b)) truth_there (bool_of w) v is
 held_not_null types.Long w v is = mapped_there Int (λ n. refl) (long_of w) v is
-held_not_null types.String w v is = mapped_there sql.Text (λ t. refl) (text_of w) v is
+held_not_null types.String w v is = text_there (text_of w) v is
 held_not_null (types.Entity t) w v is = entity_there (type_text t) (entity_of w) v is
 held_not_null types.Record w v is = mapped_there (λ fs. Int (pos 1)) (λ fs. refl) (fields_of_value w) v is
 
@@ -185,11 +199,16 @@ module _ (row : Row) (env : Env) where
   text_is true s t r h = tt
   text_is false s t r h = h
 
+  utf8_is : (q : Bool) (t : Text) → (q ≡ true → is_utf8 t ≡ true)
+      → IfSome (cond q (text_side text_sort t) None) (IsSideOf (tells (gives (plain (text_literal t)))))
+  utf8_is true t utf8 =
+      text_is (has_nul t) text_sort t (tells (gives (plain (text_literal t)))) (inr (record { held = t; of_sort = utf8 refl; is_told = refl; is_value = refl }))
+  utf8_is false t utf8 = tt
+
   literal_is : (l : Literal) → IfSome (literal_side l) (IsSideOf (tells (gives (plain l))))
   literal_is (bool_literal b) = inr (record { held = b; of_sort = tt; is_told = refl; is_value = refl })
   literal_is (long_literal n) = inr (record { held = n; of_sort = tt; is_told = refl; is_value = refl })
-  literal_is (text_literal t) =
-      text_is (has_nul t) text_sort t (tells (gives (plain (text_literal t)))) (inr (record { held = t; of_sort = tt; is_told = refl; is_value = refl }))
+  literal_is (text_literal t) = utf8_is (is_utf8 t) t (λ utf8. utf8)
   literal_is (entity_literal d) =
       text_is (has_nul d.id) (entity_sort d.type_name) d.id (tells (gives (plain (entity_literal d))))
       (inr (record { held = d; of_sort = refl; is_told = refl; is_value = refl }))

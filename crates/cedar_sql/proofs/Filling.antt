@@ -1,14 +1,14 @@
 -- A row is filled column by column.
-use Rattle.std.specs.Prelude.{ℕ, ℤ, zero, suc, ◌++◌, ◌==◌, map, is_some}
+use Rattle.std.specs.Prelude.{ℕ, zero, suc, ◌++◌, ◌==◌, map, is_some}
 use Rattle.std.specs.List.{AllByRecursion, IsDistinct}
 use Rattle.std.specs.Rc.{rc_str_bytes}
-use Rattle.std.proofs.Common.{◌≡◌, ◌∙◌, Bool, true, false, cond, ◌&&◌, List, [], ◌∷◌, Option, Some, None, refl, sym, ap, true≢false, eq-eqb}
+use Rattle.std.proofs.Common.{◌≡◌, ◌∙◌, Bool, true, false, cond, List, [], ◌∷◌, Option, Some, None, refl, sym, ap, true≢false, eq-eqb}
 use Rattle.std.proofs.lemmas.Bool.{and_parts}
 use Rattle.sqlite_value.specs.declared.value.Value.{Value}
 use Rattle.sqlite_value.specs.declared.value.Value.TheVariants as sql
 use Rattle.sqlite_value.specs.declared.value.Value.TheVariants.{Null, Int}
 use Rattle.sqlite_value.specs.Order.{Row, column}
-use Rattle.cedar_model.specs.Terms.{Text, EntityName, Literal, long_literal, text_literal}
+use Rattle.cedar_model.specs.Terms.{Text, EntityName, long_literal, text_literal}
 use Rattle.cedar_model.specs.Values.{plain_represented}
 use Rattle.cedar_model.specs.Outcomes.{text_eq, entity_eq, long_of, text_of}
 use Rattle.cedar_model.specs.Failures.{PartialValue, value}
@@ -23,10 +23,10 @@ use Rattle.cedar_sql.specs.declared.columns.ColumnType.TheVariants as types
 use Rattle.cedar_sql.specs.declared.columns.Column.{Column}
 use Rattle.cedar_sql.specs.declared.columns.RowType.{RowType}
 use Rattle.cedar_sql.specs.declared.columns.RowType.TheVariants.{One, Several}
-use Rattle.cedar_sql.specs.declared.columns.Columns.{Columns}
-use Rattle.cedar_sql.specs.Columns.{cell, IsTyped, HoldsAttribute, Represents, is_attribute, same_operand}
+use Rattle.cedar_sql.specs.Columns.{cell, IsTyped, HoldsAttribute, is_attribute}
 use Rattle.cedar_sql.specs.Filled.{type_places, MayBeOf, CanHold, EntitiesHaveRows, LongsAreHeld, TextsAreHeld}
 use Rattle.cedar_sql.specs.Filled.{AbsentIsNull}
+use Rattle.cedar_sql.proofs.Encoded.{text_is_utf8}
 
 -- ---- one place
 
@@ -155,7 +155,9 @@ longs_are_held e x a k n is there = cell_is e x types.Long a k (Some (value (pla
 
 pub texts_are_held : TextsAreHeld
 unfolding text_of
-texts_are_held e x a k t is there = cell_is e x types.String a k (Some (value (plain_represented (text_literal t)))) is there
+texts_are_held e x a k t is there =
+    cell_is e x types.String a k (Some (value (plain_represented (text_literal (rc_str_bytes t))))) is there
+    ∙ ap (λ (q : Bool). cond q (Some (sql.Text (rc_str_bytes t))) None) (text_is_utf8 t)
 
 pub absent_is_null : AbsentIsNull
 absent_is_null e x c k is there = cell_is e x c.holds c.attribute k None is there

@@ -1,7 +1,14 @@
 pub mod Cells
 pub mod Doubling
+pub mod Encoded
 pub mod Filling
 pub mod Holders
+pub mod Liking
+pub mod Matching
+pub mod Places
+pub mod Ranges
 pub mod Truths
+pub mod Utf8
 pub mod Values
+pub mod Walks
 pub mod Whole

@@ -1,6 +1,7 @@
 -- What comparisons and choices of SQL are worth, at the values that conditions have.
 use Rattle.std.specs.Prelude.{ℤ, pos, if◌then◌else◌}
 use Rattle.std.specs.Ordering.{is_eq, int_cmp}
+use Rattle.std.specs.Str.{is_utf8}
 use Rattle.std.proofs.Common.{◌≡◌, ◌∙◌, ℕ, Bool, true, false, cond, ◌&&◌, ◌||◌, Option, Some, None, refl, sym, ap}
 use Rattle.sqlite_value.specs.declared.value.Value.{Value}
 use Rattle.sqlite_value.specs.declared.value.Value.TheVariants as sql
@@ -115,11 +116,11 @@ cedar_held text_sort t = plain (text_literal t)
 cedar_held (entity_sort t) d = plain (entity_literal d)
 cedar_held (row_sort p) d = plain (entity_literal d)
 
--- the type of an entity is that of its sort
+-- the type of an entity is that of its sort, and a text is in UTF-8
 abbrev pub IsOfSort : Row → (s : Sort) → HeldOf s → Type 0
 IsOfSort row bool_sort b = Unit {0}
 IsOfSort row long_sort n = Unit {0}
-IsOfSort row text_sort t = Unit {0}
+IsOfSort row text_sort t = is_utf8 t ≡ true
 IsOfSort row (entity_sort t) d = d.type_name ≡ t
 IsOfSort row (row_sort p) d = column row p ≡ sql.Text d.type_name
 

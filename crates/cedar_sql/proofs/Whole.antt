@@ -2,17 +2,18 @@
 use Rattle.std.specs.Prelude.{ℕ, is_some, option_map, IfSome, IfOk, Result, Ok, Err}
 use Rattle.std.specs.declared.alloc.AllocError.{AllocError}
 use Rattle.std.specs.Rc.{rc_str_bytes}
+use Rattle.std.specs.Str.{chars}
 use Rattle.std.proofs.lemmas.Bool.{and_parts}
-use Rattle.std.proofs.Common.{◌≡◌, ◌∙◌, Bool, true, false, not, ◌&&◌, Option, Some, None, refl, sym, subst}
+use Rattle.std.proofs.Common.{◌≡◌, ◌∙◌, Bool, true, false, not, ◌&&◌, List, Option, Some, None, refl, sym, subst}
 use Rattle.sqlite_value.specs.Order.{Row, column}
 use Rattle.sqlite_sql.specs.declared.ops.CompareOp.TheVariants.{Lt, Le}
 use Rattle.sqlite_sql.specs.Ops.{from_truth}
 use Rattle.sqlite_sql.specs.Term.{Term, Env, eval}
-use Rattle.cedar_model.specs.Terms.{Text, EntityName}
-use Rattle.cedar_model.specs.Outcomes.{entity_of, text_eq}
+use Rattle.cedar_model.specs.Terms.{Text, EntityName, PatternPart}
+use Rattle.cedar_model.specs.Outcomes.{entity_of, text_of, text_eq, matches}
 use Rattle.cedar_model.specs.Settings.{StoredEntity}
 use Rattle.cedar_names.specs.Names.{type_text}
-use Rattle.cedar_names.specs.Leaves.{type_view}
+use Rattle.cedar_names.specs.Leaves.{type_view, pattern_view}
 use Rattle.cedar_filter.specs.declared.conditions.Comparison.{Comparison}
 use Rattle.cedar_filter.specs.declared.conditions.Comparison.TheVariants.{Equal, Less, LessEq}
 use Rattle.cedar_filter.specs.declared.conditions.Condition.{Condition}
@@ -31,9 +32,11 @@ use Rattle.cedar_sql.specs.Terms.{row_column, row_env, sql_term}
 use Rattle.cedar_sql.specs.Sides.{Side, operand_side, has_nul}
 use Rattle.cedar_sql.specs.Said.{Holder, holder, holds_or_null, compared_or_null, typed_or_null, has_or_null, condition_sql}
 use Rattle.cedar_sql.specs.Said.{earlier, unless, unsaid}
+use Rattle.cedar_sql.specs.Patterns.{wildcards, has_a_place, has_nul_character, is_said_pattern, liked_or_null}
 use Rattle.cedar_sql.specs.Meaning.{told_value, IsSqlOf, IsSqlOfFilter}
 use Rattle.cedar_sql.proofs.Truths.{truth_value, choose_told, not_told, bool_told, equal_told, order_told, type_told}
 use Rattle.cedar_sql.proofs.Cells.{IsSideOf, operand_is, found}
+use Rattle.cedar_sql.proofs.Liking.{like_told}
 use Rattle.cedar_sql.proofs.Holders.{IsHolder, holder_is, has_is}
 
 -- ---- what is said
@@ -74,6 +77,12 @@ module _ (row : Row) (env : Env) (is_row : (place : ℕ) → eval (row_column pl
   typed_said t None r h is = absurd (cc)
   typed_said t (Some a) r h is = type_told row env is_row t a.sort r a.term h
 
+  liked_said : (ps : List PatternPart) (m : Option Side) (r : Told) → IfSome m (IsSideOf row env r) → (is_some m && is_said_pattern ps) ≡ true
+      → told_value (told_then r (λ v. told_needing (text_of v) (λ t. tells_bool (matches ps (chars t))))) ≡ Some (eval (liked_or_null ps m) env)
+  liked_said ps None r h is = absurd (cc)
+  liked_said ps (Some a) r h is =
+      like_told ps row env a.sort r a.term (and_parts (has_a_place (wildcards ps)) (not (has_nul_character ps)) is).0 h
+
   module _ (e : EntityName) (x : StoredEntity) where
     has_said : (k : Text) (m : Option Holder) (n : Option Column) (r : Told) → IfSome m (IsHolder row env is_row e x r)
         → IfSome n (λ c. cell c.holds (told_then r (λ v. attribute_told e x v k)) ≡ Some (column row c.place))
@@ -110,7 +119,8 @@ module _ (row : Row) (env : Env) (is_row : (place : ℕ) → eval (row_column pl
     means columns h (Has o k) is =
         has_said (rc_str_bytes k) (holder columns o) (column_at columns.attributes.items o (rc_str_bytes k)) (operand_told e x o)
         (holder_is row env is_row e x columns h o) (found e x row columns.attributes.items o (rc_str_bytes k) h.attributes) (unless_is _ _ is)
-    means columns h (Like o p) is = absurd (cc)
+    means columns h (Like o p) is =
+        liked_said (pattern_view p) (operand_side columns o) (operand_told e x o) (operand_is row env is_row columns e x h o) (unless_is _ _ is)
     means columns h (Is o t) is =
         typed_said (type_text t) (operand_side columns o) (operand_told e x o) (operand_is row env is_row columns e x h o)
         (and_parts (is_some (operand_side columns o)) (not (has_nul (type_text t))) (unless_is _ _ is)).0

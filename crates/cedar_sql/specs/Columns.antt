@@ -3,6 +3,7 @@ use Rattle.std.specs.Prelude.{◌≡◌, pos, Bool, true, false, cond, ◌&&◌,
 use Rattle.std.specs.Prelude.{option_map, option_and_then}
 use Rattle.std.specs.List.{AllByRecursion}
 use Rattle.std.specs.Rc.{rc_str_bytes}
+use Rattle.std.specs.Str.{is_utf8}
 use Rattle.sqlite_value.specs.declared.value.Value.{Value}
 use Rattle.sqlite_value.specs.declared.value.Value.TheVariants.{Null, Int, Text}
 use Rattle.sqlite_value.specs.Order.{Row, column}
@@ -30,11 +31,15 @@ use Rattle.cedar_sql.specs.declared.columns.Columns.{Columns}
 abbrev pub id_in : model.Text → EntityName → Option Value
 id_in t d = cond (text_eq d.type_name t) (Some (Text d.id)) None
 
+-- a text in UTF-8, as each text of a program is
+abbrev pub utf8_text : model.Text → Option Value
+utf8_text t = cond (is_utf8 t) (Some (Text t)) None
+
 -- what a column of a type holds of a value; a value of another type it can't hold
 abbrev pub held_value : ColumnType → AbstractValue → Option Value
 held_value types.Bool v = option_map (λ b. from_truth (Some b)) (bool_of v)
 held_value types.Long v = option_map Int (long_of v)
-held_value types.String v = option_map Text (text_of v)
+held_value types.String v = option_and_then utf8_text (text_of v)
 held_value (types.Entity t) v = option_and_then (id_in (type_text t)) (entity_of v)
 held_value types.Record v = option_map (λ fs. Int (pos 1)) (fields_of_value v)
 

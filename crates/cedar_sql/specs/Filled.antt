@@ -1,13 +1,16 @@
 -- Rows that stand for an entity: there is one, where each column can hold what the entity tells of its attribute.
-use Rattle.std.specs.Prelude.{◌≡◌, ℕ, ℤ, Bool, true, List, [], ◌∷◌, ◌++◌, ◌==◌, map, Option, Some, None, is_some}
+use Rattle.std.specs.Prelude.{◌≡◌, ℕ, ℤ, true, List, [], ◌∷◌, ◌++◌, ◌==◌, map, Some, None, is_some}
 use Rattle.std.specs.List.{AllByRecursion, IsDistinct}
+use Rattle.std.specs.Rc.{rc_str_bytes}
+use Rattle.std.specs.declared.alloc.Global.{Global}
+use Rattle.std.specs.declared.rc.RcStr.{RcStr}
 use Rattle.sqlite_value.specs.declared.value.Value.TheVariants.{Null, Int}
 use Rattle.sqlite_value.specs.declared.value.Value.TheVariants as sql
 use Rattle.sqlite_value.specs.Order.{Row}
 use Rattle.cedar_model.specs.Terms as model
 use Rattle.cedar_model.specs.Terms.{EntityName, Literal, long_literal, text_literal}
 use Rattle.cedar_model.specs.Values.{plain_represented}
-use Rattle.cedar_model.specs.Failures.{PartialValue, value}
+use Rattle.cedar_model.specs.Failures.{value}
 use Rattle.cedar_model.specs.Settings.{StoredEntity, part_at}
 use Rattle.cedar_names.specs.Names.{type_text}
 use Rattle.cedar_filter.specs.declared.conditions.Operand.{Operand}
@@ -59,11 +62,12 @@ LongsAreHeld =
     (e : EntityName) (x : StoredEntity) (a : Operand) (k : model.Text) (n : ℤ) → is_attribute a operands.Row k ≡ true
     → HasLiteral x k (long_literal n) → cell types.Long (operand_told e x a) ≡ Some (Int n)
 
--- a string is held as its TEXT
+-- a string is held as its TEXT, as each text of a program is in UTF-8
 abbrev pub TextsAreHeld : Type 0
 TextsAreHeld =
-    (e : EntityName) (x : StoredEntity) (a : Operand) (k t : model.Text) → is_attribute a operands.Row k ≡ true
-    → HasLiteral x k (text_literal t) → cell types.String (operand_told e x a) ≡ Some (sql.Text t)
+    (e : EntityName) (x : StoredEntity) (a : Operand) (k : model.Text) (t : RcStr Global)
+    → is_attribute a operands.Row k ≡ true → HasLiteral x k (text_literal (rc_str_bytes t))
+    → cell types.String (operand_told e x a) ≡ Some (sql.Text (rc_str_bytes t))
 
 -- in the place of an attribute that the entity lacks is NULL
 abbrev pub AbsentIsNull : Type 0

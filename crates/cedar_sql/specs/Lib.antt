@@ -1,6 +1,7 @@
 pub mod Columns
 pub mod Filled
 pub mod Meaning
+pub mod Patterns
 pub mod Said
 pub mod Sides
 pub mod Terms

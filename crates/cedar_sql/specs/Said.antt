@@ -8,6 +8,7 @@ use Rattle.sqlite_sql.specs.Term.{Term, lit, op1, op2}
 use Rattle.cedar_model.specs.Terms.{Text}
 use Rattle.cedar_model.specs.Outcomes.{text_eq}
 use Rattle.cedar_names.specs.Names.{type_text}
+use Rattle.cedar_names.specs.Leaves.{pattern_view}
 use Rattle.cedar_filter.specs.declared.conditions.Operand.{Operand}
 use Rattle.cedar_filter.specs.declared.conditions.Operand.TheVariants as operands
 use Rattle.cedar_filter.specs.declared.conditions.Comparison.{Comparison}
@@ -26,6 +27,7 @@ use Rattle.cedar_sql.specs.declared.leaves.Holder.TheVariants as holders
 use Rattle.cedar_sql.specs.Columns.{column_at}
 use Rattle.cedar_sql.specs.Sides.{Sort, bool_sort, long_sort, text_sort, entity_sort, row_sort, Side, operand_side}
 use Rattle.cedar_sql.specs.Sides.{has_nul, leaf_term}
+use Rattle.cedar_sql.specs.Patterns.{is_said_pattern, liked_or_null}
 use Rattle.cedar_sql.specs.Terms.{row_column, choose, equals, compare_operator}
 
 -- ---- parts
@@ -203,7 +205,7 @@ module _ (columns : Columns) where
   condition_sql (In o u) = lit sql.Null
   condition_sql (Has o k) =
       has_or_null (holder columns o) (column_at columns.attributes.items o (rc_str_bytes k))
-  condition_sql (Like o p) = lit sql.Null
+  condition_sql (Like o p) = liked_or_null (pattern_view p) (operand_side columns o)
   condition_sql (Is o t) = typed_or_null (type_text t) (operand_side columns o)
   condition_sql (Contains o v) = lit sql.Null
 
@@ -229,6 +231,6 @@ module _ (columns : Columns) where
   unsaid (In o u) = Some (In o u)
   unsaid (Has o k) =
       unless (is_some (holder columns o) && is_some (column_at columns.attributes.items o (rc_str_bytes k))) (Has o k)
-  unsaid (Like o p) = Some (Like o p)
+  unsaid (Like o p) = unless (is_some (operand_side columns o) && is_said_pattern (pattern_view p)) (Like o p)
   unsaid (Is o t) = unless (is_some (operand_side columns o) && not (has_nul (type_text t))) (Is o t)
   unsaid (Contains o v) = Some (Contains o v)

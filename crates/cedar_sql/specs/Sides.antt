@@ -2,6 +2,7 @@
 use Rattle.std.specs.Prelude.{ℕ, Bool, cond, ◌==◌, Option, Some, None, option_and_then}
 use Rattle.std.specs.List.{list_any}
 use Rattle.std.specs.Rc.{rc_str_bytes}
+use Rattle.std.specs.Str.{is_utf8}
 use Rattle.sqlite_value.specs.declared.value.Value.TheVariants as sql
 use Rattle.sqlite_sql.specs.Ops.{from_truth}
 use Rattle.sqlite_sql.specs.Term.{Term, lit}
@@ -66,10 +67,11 @@ has_nul t = list_any (λ b. b == 0) t
 abbrev pub text_side : Sort → Text → Option Side
 text_side s t = cond (has_nul t) None (Some (side s (lit (sql.Text t))))
 
+-- each text of a program is in UTF-8
 abbrev pub literal_side : Literal → Option Side
 literal_side (bool_literal b) = Some (side bool_sort (lit (from_truth (Some b))))
 literal_side (long_literal n) = Some (side long_sort (number n))
-literal_side (text_literal t) = text_side text_sort t
+literal_side (text_literal t) = cond (is_utf8 t) (text_side text_sort t) None
 literal_side (entity_literal e) = text_side (entity_sort e.type_name) e.id
 
 abbrev pub known_side : Represented → Option Side

@@ -54,4 +54,5 @@ sql_term (terms.Is' p a b) = is_truth (sql_term a) b
 sql_term (terms.And' p a q b) = op2 by.And (sql_term a) (sql_term b)
 sql_term (terms.Or' p a q b) = op2 by.Or (sql_term a) (sql_term b)
 sql_term (terms.Compare' c p a q b) = op2 (compare_operator c) (sql_term a) (sql_term b)
+sql_term (terms.Instr' p a q b) = op2 by.Instr (sql_term a) (sql_term b)
 sql_term (terms.Choice' p c q a r b) = choose (sql_term c) (sql_term a) (sql_term b)

@@ -67,6 +67,8 @@ module _ (names : List (RcStr Global)) where
       opening in_chain ++ (term_text true a ++ (codes " OR " ++ (term_text false b ++ closing in_chain)))
   term_text in_chain (terms.Compare' c p a q b) =
       codes "(" ++ (term_text false a ++ (sign_text c ++ (term_text false b ++ codes ")")))
+  term_text in_chain (terms.Instr' p a q b) =
+      codes "instr(" ++ (term_text false a ++ (codes ", " ++ (term_text false b ++ codes ")")))
   term_text in_chain (terms.Choice' p c q a r b) =
       codes "CASE " ++ (term_text false c ++ (codes " WHEN 1 THEN " ++ (term_text false a
       ++ (codes " WHEN 0 THEN " ++ (term_text false b ++ codes " END")))))

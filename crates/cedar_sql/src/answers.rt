@@ -9,6 +9,8 @@ use crate::columns::{Columns, column_at};
 use crate::leaves::{
     compared_or_null, has_or_null, holder_of, holds_or_null, truth_term, typed_or_null,
 };
+use crate::likes::liked_or_null;
+use crate::patterns::is_said;
 use crate::sides::{has_nul, side_of};
 use crate::terms::{SqlTerm, choice, negated};
 use cedar_fallible::pair_of;
@@ -26,9 +28,10 @@ pub enum NoSql<'a> {
 
 /// The condition as an SQL expression on the rows of a table with these columns: on each row that is an entity's, it
 /// is 1 where the condition is true of the entity, 0 where it is false, and NULL where it errs. Refuses the first part
-/// of another kind: `in`, `like` and `contains`; `has` of what has no column, or is neither the row nor a record with
-/// a column; an operand that is a set, a record, an extension value, or an attribute with no column; a text with a NUL.
-/// Refuses, too, if out of memory.
+/// of another kind: `in` and `contains`; `like` with a wildcard elsewhere than at the end, or at both ends, of the
+/// pattern; `has` of what has no column, or is neither the row nor a record with a column; an operand that is a set, a
+/// record, an extension value, or an attribute with no column; a text, or a pattern, with a NUL. Refuses, too, if out of
+/// memory.
 pub fn sql_of<'a>(
     alloc: Global,
     condition: &'a Condition,
@@ -99,7 +102,10 @@ pub fn unsaid_in<'a>(condition: &'a Condition, columns: &Columns) -> Option<&'a 
             holder_of(of, columns).is_some() && column_at(columns, of, name).is_some(),
             condition,
         ),
-        Condition::Like(_, _) => Some(condition),
+        Condition::Like(operand, pattern) => unless(
+            side_of(operand, columns).is_some() && is_said(pattern.elems()),
+            condition,
+        ),
         Condition::Is(operand, ty) => unless(
             side_of(operand, columns).is_some() && !has_nul(ty.text().as_str()),
             condition,
@@ -166,7 +172,9 @@ fn made(alloc: Global, condition: &Condition, columns: &Columns) -> Result<SqlTe
             holder_of(of, columns),
             column_at(columns, of, name),
         ),
-        Condition::Like(_, _) => Ok(SqlTerm::Null),
+        Condition::Like(operand, pattern) => {
+            liked_or_null(alloc, pattern, side_of(operand, columns))
+        }
         Condition::Is(operand, ty) => typed_or_null(alloc, ty, side_of(operand, columns)),
         Condition::Contains(_, _) => Ok(SqlTerm::Null),
     }

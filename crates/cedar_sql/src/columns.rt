@@ -15,7 +15,7 @@ pub enum ColumnType {
     Bool,
     /// A Long: an INTEGER.
     Long,
-    /// A String: a TEXT, compared by its bytes (BINARY).
+    /// A String: a TEXT in UTF-8, compared by its bytes (BINARY).
     String,
     /// An entity of this type: its id, a TEXT.
     Entity(EntityType),

@@ -43,7 +43,7 @@ pub(crate) fn truth_term(holds: bool) -> SqlTerm
     SqlTerm::Number(number_of(holds))
 }
 
-fn written(alloc: Global, leaf: Leaf<'_>) -> Result<SqlTerm, AllocError>
+pub(crate) fn written(alloc: Global, leaf: Leaf<'_>) -> Result<SqlTerm, AllocError>
     ensures { IfOk result (λ t. sql_term t ≡ leaf_term leaf.entry) }
 {
     match leaf {

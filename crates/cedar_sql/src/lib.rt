@@ -3,8 +3,9 @@
 //! - `columns`: which columns of a table hold what of an entity (`Columns`).
 //! - `terms`: SQL expressions on one row (`SqlTerm`). `texts`: how they are written (`term_to_sql`).
 //! - `answers`: a condition, or a filter, as such an expression (`sql_of`, `sql_of_filter`), or the first part of it
-//!   that is none (`NoSql`, `unsaid_in`). Below it: `sides`, how an operand is written; `leaves`, what operands are asked.
-//! - `laws`: entities have rows.
+//!   that is none (`NoSql`, `unsaid_in`). Below it: `sides`, how an operand is written; `leaves`, what operands are asked;
+//!   `likes`, what they are asked by `like`, and `patterns`, which patterns are.
+//! - `laws`: entities have rows; what columns hold.
 //!
 //! The promise: on each row that is an entity's (`Represents` in `specs/Columns.antt`), the expression is worth 1, 0
 //! or NULL as the condition is true of the entity, false or errs (`meaning`, over `told_value` in
@@ -18,6 +19,8 @@ mod answers;
 mod columns;
 pub mod laws;
 mod leaves;
+mod likes;
+mod patterns;
 mod sides;
 mod terms;
 mod texts;

@@ -64,6 +64,7 @@ fn side_of_value(value: &Value) -> Option<Side<'_>>
     }
 }
 
+#[tactic(auto, using(crate::proofs::Encoded::text_is_utf8))]
 fn side_of_literal(literal: &Literal) -> Option<Side<'_>>
     ensures { option_map side_view result ≡ literal_side (literal_view literal.now) }
 {

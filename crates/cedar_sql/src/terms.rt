@@ -3,6 +3,7 @@ ghost use Rattle.std.specs.Prelude.{◌≡◌, IfOk};
 ghost use Rattle.cedar_sql.specs.Terms.{choose, sql_term, compare_operator};
 ghost use Rattle.sqlite_sql.specs.Term.{op1, op2};
 ghost use Rattle.sqlite_sql.specs.declared.ops.UnaryOp.TheVariants.{IsNull, Not};
+ghost use Rattle.sqlite_sql.specs.declared.ops.BinaryOp.TheVariants as by;
 
 use cedar_filter::Comparison;
 use std::alloc::{AllocError, Global};
@@ -31,6 +32,8 @@ pub enum SqlTerm {
     Or(Box<SqlTerm>, Box<SqlTerm>),
     /// `=`, `<` or `<=`, of texts by their bytes.
     Compare(Comparison, Box<SqlTerm>, Box<SqlTerm>),
+    /// `instr`: the place of the second text in the first one, in characters from 1 on; 0, if it is not in it.
+    Instr(Box<SqlTerm>, Box<SqlTerm>),
     /// `CASE .. WHEN 1 THEN .. WHEN 0 THEN .. END`: where the first is neither 1 nor 0, it is NULL.
     Choice(Box<SqlTerm>, Box<SqlTerm>, Box<SqlTerm>),
 }
@@ -61,6 +64,21 @@ pub(crate) fn compared(
 {
     let (first, second) = boxed_pair(alloc, first, second)?;
     Ok(SqlTerm::Compare(comparison, first, second))
+}
+
+pub(crate) fn both(alloc: Global, first: SqlTerm, second: SqlTerm) -> Result<SqlTerm, AllocError>
+    ensures { IfOk result (λ t. sql_term t ≡ op2 by.And (sql_term first) (sql_term second)) }
+{
+    let (first, second) = boxed_pair(alloc, first, second)?;
+    Ok(SqlTerm::And(first, second))
+}
+
+// The place of the second in the first.
+pub(crate) fn place_in(alloc: Global, text: SqlTerm, part: SqlTerm) -> Result<SqlTerm, AllocError>
+    ensures { IfOk result (λ t. sql_term t ≡ op2 by.Instr (sql_term text) (sql_term part)) }
+{
+    let (text, part) = boxed_pair(alloc, text, part)?;
+    Ok(SqlTerm::Instr(text, part))
 }
 
 pub(crate) fn choice(

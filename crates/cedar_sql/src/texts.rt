@@ -82,6 +82,7 @@ fn write_term<W: fmt::Write>(
             names,
             f,
         ),
+        SqlTerm::Instr(text, part) => write_two("instr(", false, text, ", ", part, ")", names, f),
         SqlTerm::Choice(test, yes, no) => write_choice(test, yes, no, names, f),
     }
 }

@@ -1,12 +1,14 @@
 //! Answers the rows of the tables that are named, and compares with what is wanted: what decides requests, which
-//! policies never apply, plans as SQL, and policies as JSON. Prints each row that is answered otherwise, and a line
+//! policies can't be meant, plans as SQL, and policies as JSON. Prints each row that is answered otherwise, and a line
 //! `FILE: HELD of ROWS rows hold` a file.
 //!
 //! - `rows`, `setting`, `questions`, `answer`: tables, the facts that rows share, what is asked of a text, and what is
 //!   answered.
 //! - `given`: policies, stores and requests of the facts.
-//! - `explained`: what each policy came to, the parts that decide it, and what a permit lacks. `never`: whether a
-//!   policy's text shows that it never applies.
+//! - `explained`: what each policy came to, the parts that decide it, and what a permit lacks. `reasons`: the facts on
+//!   which a decision rests. `never`: what a
+//!   policy's text shows: that it never applies, errs wherever its scope holds, or tests an attribute after it read it.
+//!   `same`: of which policies one before says the same.
 //! - `plans`: what is left of policies, as SQL; `columns`: the tables that it is asked of.
 //! - `as_json`: expressions, policies, templates and links as JSON; `links`: the links.
 //!
@@ -23,7 +25,9 @@ mod links;
 mod never;
 mod plans;
 mod questions;
+mod reasons;
 mod rows;
+mod same;
 mod setting;
 
 use answer::Unanswered;

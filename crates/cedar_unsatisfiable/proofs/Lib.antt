@@ -1,2 +1,5 @@
-pub mod Said
+pub mod Failing
 pub mod Never
+pub mod Said
+pub mod Shown
+pub mod Parted

@@ -1,3 +1,7 @@
+pub mod Alike
 pub mod Claims
+pub mod Erring
+pub mod Kinds
+pub mod Late
 pub mod Showing
 pub mod Views

@@ -3,12 +3,13 @@ ghost use Rattle.std.specs.Prelude.{◌≡◌, true, IfOk};
 ghost use Rattle.cedar_layers.specs.Parts.{parts_view, values_as_parts, are_restricted_parts};
 ghost use mathlib.Core.Bool.{Bool-set};
 
+use cedar_fallible::in_rc;
 use cedar_names::{EntityUID, Type, Unknown};
 use cedar_values::{PartialValue, Value};
 use std::alloc::{AllocError, Global};
 use std::collections::btree_map::Keys;
 use std::collections::{BTreeMap, BTreeSet};
-use std::rc::RcStr;
+use std::rc::{Rc, RcStr};
 
 /// An entity: its uid, its attributes and tags under their names, and the entities that it is in. A residual among the
 /// attributes and tags is a restricted expression.
@@ -214,31 +215,36 @@ pub enum Dereference<'a> {
     Data(&'a Entity),
 }
 
+// Entities under their uids.
+type Layer = BTreeMap<EntityUID, Entity>;
+
 /// A store of entities. A concrete store has every entity; of a partial one a missing entity is not known. It is kept
-/// in the order of the entities' names, so that no choice of names makes a look-up slow.
+/// in the order of the entities' names, so that no choice of names makes a look-up slow. A store that is made over
+/// another shares the entities of that one.
 #[derive(Debug)]
 pub struct Entities {
-    entities: BTreeMap<EntityUID, Entity>,
+    layers: Vec<Rc<Layer>>,
     partial: bool,
 }
 
 impl Drop for Entities {
     fn drop(self) {
         let Entities {
-            entities: _,
+            layers: _,
             partial: _,
         } = self;
     }
 }
 
 impl Entities {
-    ghost use Rattle.std.specs.Prelude.{false, OnOk, option_map, option_copied};
+    ghost use Rattle.std.specs.Prelude.{false, map, OnOk, option_map, option_copied};
     ghost use Rattle.std.specs.Rc.{rc_str_bytes};
     ghost use Rattle.cedar_model.specs.Terms.{unknown};
     ghost use Rattle.cedar_model.specs.Settings.{look_up, missing_entity};
     ghost use Rattle.cedar_names.specs.Names.{uid_name};
     ghost use Rattle.cedar_names.specs.Leaves.{type_view};
     ghost use Rattle.cedar_layers.specs.Stores.{no_entities, store_of, standing, standing_with, last_of_each_name};
+    ghost use Rattle.cedar_layers.specs.Stores.{standing_with_each, with_entities, shown, or_below, with_below};
     ghost use Rattle.cedar_layers.specs.Stores.{store_view, entity_view, stored_entity, found_view, answered_entity};
     ghost use Rattle.cedar_layers.specs.Stores.{AsksFor};
 
@@ -247,7 +253,7 @@ impl Entities {
         ensures { store_view result ≡ record { entity = no_entities; is_partial = false } }
     {
         Entities {
-            entities: BTreeMap::new(alloc),
+            layers: Vec::new(alloc),
             partial: false,
         }
     }
@@ -261,22 +267,92 @@ impl Entities {
         ensures view { IfOk result (λ s. store_view s ≡ store_of entities.items partial) }
         ensures whole { IfOk result (λ s. stored_entity s ≡ last_of_each_name entities.items) }
     {
-        let mut held: BTreeMap<EntityUID, Entity> = BTreeMap::new(alloc);
-        'put: for entity in entities {
-            Entities::put(&mut held, entity)?;
-        }
+        let layer = Entities::layer_of(alloc, entities)?;
+        let mut layers: Vec<Rc<Layer>> = Vec::new(alloc);
+        layers.push(layer)?;
+        Ok(Entities { layers, partial })
+    }
+
+    /// The store that has these entities, of those of one uid the last, and else what this one has. It is partial if
+    /// this one is. This one stays as it is, and its entities are shared, not copied: what it costs, and how much memory
+    /// it takes, goes by how many entities are handed in. Ancestors are taken as they are, as in `with`: those of the
+    /// entities of this store stay as they were recorded. A look-up asks each store that this one is made over in turn,
+    /// the one made last first. Refuses only if out of memory.
+    pub fn over(&self, alloc: Global, entities: Vec<Entity>) -> Result<Entities, AllocError>
+        ensures held { IfOk result (λ s.
+            (store_view s).entity ≡ with_entities (store_view self.now).entity entities.items) }
+        ensures partial { IfOk result (λ s. (store_view s).is_partial ≡ (store_view self.now).is_partial) }
+        ensures whole { IfOk result (λ s. stored_entity s ≡ standing_with_each (stored_entity self.now) entities.items) }
+    {
+        let layer = Entities::layer_of(alloc, entities)?;
+        let mut layers: Vec<Rc<Layer>> = self.layers.clone()?;
+        layers.insert(0, layer)?;
         Ok(Entities {
-            entities: held,
-            partial,
+            layers,
+            partial: self.partial,
         })
     }
 
+    // The entities under their uids, of those of one uid the last.
+    fn layer_of(alloc: Global, entities: Vec<Entity>) -> Result<Rc<Layer>, AllocError>
+        ensures { IfOk result (λ r. standing r.value.entries ≡ last_of_each_name entities.items) }
+    {
+        let mut held: Layer = BTreeMap::new(alloc);
+        'put: for entity in entities {
+            Entities::put(&mut held, entity)?;
+        }
+        let layer = in_rc(alloc, held)?;
+        Ok(layer)
+    }
+
     // Puts the entity into the map, instead of one of the same uid.
-    fn put(map: &mut BTreeMap<EntityUID, Entity>, entity: Entity) -> Result<(), AllocError>
+    fn put(map: &mut Layer, entity: Entity) -> Result<(), AllocError>
         ensures { OnOk result (standing map.new.entries ≡ standing_with (standing map.old.entries) entity) }
     {
         let uid = entity.uid.clone()?;
         map.insert(uid, entity)?;
+        Ok(())
+    }
+
+    /// The entities that the store has, each once, under their uids: so `iter` of what is answered goes over them in the
+    /// order of their names, and `len` says how many there are. Refuses only if out of memory.
+    pub fn by_uid(&self, alloc: Global) -> Result<BTreeMap<EntityUID, &Entity>, AllocError>
+        ensures { IfOk result (λ m. shown m.entries ≡ stored_entity self.now) }
+    {
+        let mut listed: BTreeMap<EntityUID, &Entity> = BTreeMap::new(alloc);
+        'layers: for layer in &self.layers {
+            Entities::list_each(&mut listed, layer)?;
+        }
+        Ok(listed)
+    }
+
+    // Lists each entity whose uid is not listed yet.
+    fn list_each<'a>(
+        listed: &mut BTreeMap<EntityUID, &'a Entity>,
+        layer: &'a Layer,
+    ) -> Result<(), AllocError>
+        ensures { OnOk result (shown listed.new.entries ≡
+            or_below (shown listed.old.entries) (standing layer.now.entries)) }
+    {
+        'entries: for (uid, entity) in layer.iter() {
+            Entities::list(listed, uid, entity)?;
+        }
+        Ok(())
+    }
+
+    // Lists the entity, unless one is listed under the uid.
+    fn list<'a>(
+        listed: &mut BTreeMap<EntityUID, &'a Entity>,
+        uid: &EntityUID,
+        entity: &'a Entity,
+    ) -> Result<(), AllocError>
+        ensures { OnOk result (shown listed.new.entries ≡
+            with_below (shown listed.old.entries) (uid_name uid.now) entity.now) }
+    {
+        if !listed.contains_key(uid) {
+            let key = uid.clone()?;
+            listed.insert(key, entity)?;
+        }
         Ok(())
     }
 
@@ -304,7 +380,13 @@ impl Entities {
         ensures view { option_map entity_view (option_copied result) ≡ (store_view self.now).entity (uid_name uid.now) }
         ensures whole { option_copied result ≡ stored_entity self.now (uid_name uid.now) }
     {
-        self.entities.get(uid)
+        'layers: for layer in &self.layers {
+            match layer.get(uid) {
+                Some(entity) => return Some(entity),
+                None => {}
+            }
+        }
+        None
     }
 
     // The unknown that stands for the entity of this uid.

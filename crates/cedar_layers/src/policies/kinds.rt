@@ -3,11 +3,12 @@
 ghost use Rattle.std.specs.Prelude.{◌≡◌};
 ghost use Rattle.std.specs.Option.{option_map};
 ghost use Rattle.cedar_names.specs.Leaves.{binary_view, slot_view};
+ghost use Rattle.cedar_names.specs.Names.{type_text};
 ghost use Rattle.cedar_expressions.specs.View.{view, terms_view};
-ghost use Rattle.cedar_layers.specs.Kinds.{and_parts, binary_parts, type_test_part, set_parts, slot_part};
+ghost use Rattle.cedar_layers.specs.Kinds.{and_parts, binary_parts, type_test_parts, set_parts, slot_part};
 
 use cedar_expressions::{Expr, ExprKind};
-use cedar_names::{BinaryOp, SlotId};
+use cedar_names::{BinaryOp, EntityType, SlotId};
 
 // Both sides, of `&&`.
 pub(super) fn as_and(expr: &Expr) -> Option<(&Expr, &Expr)>
@@ -60,12 +61,12 @@ pub(super) fn as_binary(expr: &Expr) -> Option<(BinaryOp, &Expr, &Expr)>
     }
 }
 
-// What is tested for a type, of `is`.
-pub(super) fn as_is(expr: &Expr) -> Option<&Expr>
-    ensures { option_map (λ e. view e.now) result ≡ type_test_part (view expr.now) }
+// What is tested for a type, and the type, of `is`.
+pub(super) fn as_is(expr: &Expr) -> Option<(&Expr, &EntityType)>
+    ensures { option_map (λ p. (view p.0.now, type_text p.1.now)) result ≡ type_test_parts (view expr.now) }
 {
     match expr.expr_kind() {
-        ExprKind::Is { expr, .. } => Some(expr),
+        ExprKind::Is { expr, entity_type } => Some((expr, entity_type)),
         ExprKind::Lit(_) => None,
         ExprKind::Var(_) => None,
         ExprKind::Slot(_) => None,

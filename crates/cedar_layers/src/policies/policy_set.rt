@@ -130,10 +130,10 @@ impl PolicySet {
         }
     }
 
-    /// Whether the scopes of fewer than half of the policies are known to ask for an entity, so that `within_reach`
-    /// leaves out too few of them to be of use, whatever the entities are. A scope is known to ask for one by `==` or
-    /// `in` beside an entity, a linked slot or a set of entities, alone or after `is`, where the constraints before it
-    /// are booleans whatever the request is.
+    /// Whether the scopes of fewer than half of the policies are known to ask for an entity or a type, so that
+    /// `within_reach` leaves out too few of them to be of use, whatever the entities are. A scope is known to ask for an
+    /// entity by `==` or `in` beside an entity, a linked slot or a set of entities, alone or after `is`, and for a type
+    /// by `is` alone, where the constraints before it are booleans whatever the request is.
     pub fn leaves_out_few(&self) -> bool
         ensures { result ≡ leaves_out_few self.now }
     {
@@ -141,10 +141,10 @@ impl PolicySet {
     }
 
     /// The policies in order of insertion, but for some that are bound elsewhere: of which the scope asks that
-    /// principal, action or resource is one of some entities, or is in one, none of which is one of these. Those that
-    /// are answered ask so of no entity at all, or of one of these. A slot stands for the entity that it is linked to;
-    /// one that is linked to none asks for no entity. None, where the index leaves out too few (`leaves_out_few`).
-    /// Refuses only if out of memory.
+    /// principal, action or resource is one of some entities, or is in one, none of which is one of these, or that it is
+    /// of a type that none of these is of. Those that are answered ask so for nothing at all, or for one of these, or
+    /// for the type of one. A slot stands for the entity that it is linked to; one that is linked to none asks for no
+    /// entity. None, where the index leaves out too few (`leaves_out_few`). Refuses only if out of memory.
     pub fn within_reach(
         &self,
         alloc: Global,

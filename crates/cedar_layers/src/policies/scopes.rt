@@ -1,20 +1,22 @@
 #![tactic(auto, using(cedar_expressions::proofs::Levels::levels))]
-//! What the scope of a policy asks for: entities, one of which principal, action or resource must be or be in.
-ghost use Rattle.std.specs.Prelude.{◌≡◌, ◌||◌, true, cond, None, Some, IfOk, MatchOption, option_map};
+//! What the scope of a policy asks for: entities, one of which principal, action or resource must be or be in, or a type
+//! that one of the three must be of.
+ghost use Rattle.std.specs.Prelude.{◌≡◌, ◌||◌, ◌&&◌, true, cond, None, Some, IfOk, MatchOption, option_map};
 ghost use Rattle.cedar_model.specs.Terms.{Term, variable, literal};
 ghost use Rattle.cedar_names.specs.Leaves.{binary_view, variable_view, literal_view};
-ghost use Rattle.cedar_names.specs.Names.{uid_name};
+ghost use Rattle.cedar_names.specs.Names.{type_text, uid_name};
 ghost use Rattle.cedar_expressions.specs.View.{view, terms_view};
 ghost use Rattle.cedar_layers.specs.Policies.{policy_view, slots_view};
-ghost use Rattle.cedar_layers.specs.Scopes.{is_entity_variable, literal_entity, is_truth, is_type_test, is_in_rest};
+ghost use Rattle.cedar_layers.specs.Scopes.{is_entity_variable, literal_entity, is_truth, is_type_test, asked_type};
 ghost use Rattle.cedar_layers.specs.Scopes.{named_entity, listed_entities, place_entities, sought_entities};
 ghost use Rattle.cedar_layers.specs.Scopes.{compared_entities, asked_entities, IsBoundTo, names_at, names_found, only};
-ghost use Rattle.cedar_layers.specs.Scopes.{resource_or_action};
+ghost use Rattle.cedar_layers.specs.Scopes.{resource_or_action, asks_for_no_entity, asks_for_no_type, IsBoundToType};
+ghost use Rattle.cedar_layers.specs.Scopes.{type_found, first_type};
 
 use super::kinds::{as_and, as_binary, as_is, as_set, as_slot};
 use super::policy::Policy;
 use cedar_expressions::Expr;
-use cedar_names::{BinaryOp, EntityUID, Literal, SlotEnv, Var};
+use cedar_names::{BinaryOp, EntityType, EntityUID, Literal, SlotEnv, Var};
 use std::alloc::{AllocError, Global};
 
 // The entities, one of which the policy's scope asks for: as the principal, or else as the resource, or else as the
@@ -23,7 +25,7 @@ pub(super) fn bound_to(
     alloc: Global,
     policy: &Policy,
 ) -> Result<Option<Vec<&EntityUID>>, AllocError>
-    ensures { IfOk result (λ o. MatchOption o (is_in_rest (policy_view policy.now) ≡ true)
+    ensures { IfOk result (λ o. MatchOption o (asks_for_no_entity (policy_view policy.now) ≡ true)
         (λ v. IsBoundTo (policy_view policy.now) (names_at v.items))) }
 {
     let principal = asked_entities(alloc, policy.env(), policy.principal_constraint())?;
@@ -47,7 +49,7 @@ fn bound_for_any_principal(
     requires none { asked_entities (policy_view policy.now).slots (policy_view policy.now).principal_constraint ≡ None }
     requires told { (is_truth (policy_view policy.now).principal_constraint
         || is_type_test (policy_view policy.now).principal_constraint) ≡ true }
-    ensures { IfOk result (λ o. MatchOption o (is_in_rest (policy_view policy.now) ≡ true)
+    ensures { IfOk result (λ o. MatchOption o (asks_for_no_entity (policy_view policy.now) ≡ true)
         (λ v. IsBoundTo (policy_view policy.now) (names_at v.items))) }
 {
     let action = asked_entities(alloc, policy.env(), policy.action_constraint())?;
@@ -71,6 +73,59 @@ fn resource_or_action<'a>(
             None => Some(of_action),
         },
         None => { if is_told { resource } else { None } }
+    }
+}
+
+// The type that the policy's scope asks for, where it asks for no entity: of the resource, or else of the principal, or
+// else of the action. None, where it asks for none.
+pub(super) fn bound_type(policy: &Policy) -> Option<&EntityType>
+    requires none { asks_for_no_entity (policy_view policy.now) ≡ true }
+    ensures { MatchOption result (asks_for_no_type (policy_view policy.now) ≡ true)
+        (λ t. IsBoundToType (policy_view policy.now) (type_text t.now)) }
+{
+    let of_principal = asked_type(policy.principal_constraint());
+    if are_booleans(policy.principal_constraint(), policy.action_constraint()) {
+        let of_action = asked_type(policy.action_constraint());
+        first_type(
+            asked_type(policy.resource_constraint()),
+            first_type(of_principal, of_action),
+        )
+    } else {
+        of_principal
+    }
+}
+
+// The first type, or else the second.
+fn first_type<'a>(
+    first: Option<&'a EntityType>,
+    second: Option<&'a EntityType>,
+) -> Option<&'a EntityType>
+    ensures { type_found result ≡ first_type (type_found first.entry) (type_found second.entry) }
+{
+    match first {
+        Some(ty) => Some(ty),
+        None => second,
+    }
+}
+
+// The type T of `x is T`, where x is principal, action or resource.
+fn asked_type(e: &Expr) -> Option<&EntityType>
+    ensures { type_found result ≡ asked_type (view e.now) }
+{
+    match as_is(e) {
+        Some((tested, ty)) => type_of_test(tested, ty),
+        None => None,
+    }
+}
+
+// The type, where principal, action or resource is tested for it.
+fn type_of_test<'a>(tested: &Expr, ty: &'a EntityType) -> Option<&'a EntityType>
+    ensures { type_found result ≡ cond (is_entity_variable (view tested.now)) (Some (type_text ty.now)) None }
+{
+    if is_entity_variable(tested) {
+        Some(ty)
+    } else {
+        None
     }
 }
 
@@ -222,12 +277,20 @@ fn is_boolean(e: &Expr) -> bool
     is_truth(e) || is_type_test(e)
 }
 
+// Whether both are.
+fn are_booleans(left: &Expr, right: &Expr) -> bool
+    ensures { result ≡ ((is_truth (view left.now) || is_type_test (view left.now))
+        && (is_truth (view right.now) || is_type_test (view right.now))) }
+{
+    is_boolean(left) && is_boolean(right)
+}
+
 // Whether it is `x is T`, where x is principal, action or resource.
 fn is_type_test(e: &Expr) -> bool
     ensures { result ≡ is_type_test (view e.now) }
 {
     match as_is(e) {
-        Some(tested) => is_entity_variable(tested),
+        Some((tested, _)) => is_entity_variable(tested),
         None => false,
     }
 }

@@ -1,5 +1,5 @@
 use Rattle.std.proofs.Common.{refl, codes}
-use Rattle.std.proofs.Output.{has_written_append, has_written_of_eq}
+use Rattle.std.proofs.Output.{has_written_append}
 use Rattle.cedar_sql.proofs.texts.+write.Goals as goal
 
 pub write_one-returns : goal.write_one-returns

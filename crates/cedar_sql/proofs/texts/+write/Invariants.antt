@@ -1,4 +1,4 @@
-use Rattle.std.proofs.Common.{ℕ, ◌+◌, ◌*◌, max}
+use Rattle.std.proofs.Common.{◌+◌, ◌*◌, max}
 use Rattle.cedar_sql.specs.declared.terms.SqlTerm.{size-SqlTerm}
 use Rattle.cedar_sql.proofs.texts.+write.Given as goal
 

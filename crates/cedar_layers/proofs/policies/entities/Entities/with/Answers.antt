@@ -1,12 +1,14 @@
-use Rattle.std.proofs.Common.{◌≡◌, [], sym, ap, ◌∙◌}
-use Rattle.std.proofs.lemmas.List.{nil_from_length}
-use Rattle.std.specs.Vec.Iter.{into_iter_items}
-use Rattle.cedar_layers.specs.Stores.{standing, standing_with_each, last_of_each_name}
-use Rattle.cedar_layers.proofs.Stores.{held-last}
+use Rattle.std.proofs.Common.{◌≡◌, ◌∷◌, [], ◌++◌, ap, ◌∙◌}
+use Rattle.cedar_layers.specs.Stores.{standing_in, last_of_each_name}
+use Rattle.cedar_layers.proofs.Stores.{Layers, entries_of, stands_alone, held-last}
 use Rattle.cedar_layers.proofs.policies.entities.Entities.with.Goals as goal
+
+pub returns-clause-whole : goal.returns-clause-whole
+returns-clause-whole c =
+    ap (λ (rs : Layers). standing_in (entries_of rs)) (c.in_ok-push.ensures.items ∙ ap (λ (rs : Layers). rs ++ c.in_ok-layer.layer ∷ []) c.new-layers.ensures.items)
+    ∙ stands_alone c.in_ok-layer.layer.value.entries ∙ c.in_ok-layer.ensures
 
 pub returns-clause-view : goal.returns-clause-view
 returns-clause-view c =
-    let none : into_iter_items c.put.entity-iterator ≡ [] = nil_from_length _ (sym c.put.entity-iterator.rest.ok.0 ∙ c.in-None.ensures.steps.0) in
-    let last : standing c.put.held.entries ≡ last_of_each_name c.args.entities.items = sym (ap (standing_with_each (standing c.put.held.entries)) none) ∙ c.put.invariant in
-    λ i. record { entity = held-last c.put.held.entries c.args.entities.items last i; is_partial = c.args.partial }
+    let held = held-last (standing_in (entries_of c.push.new.self.items)) c.args.entities.items (returns-clause-whole c) in
+    λ i. record { entity = held i; is_partial = c.args.partial }

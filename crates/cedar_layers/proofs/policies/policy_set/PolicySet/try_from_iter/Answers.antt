@@ -9,7 +9,7 @@ pub insert-init : goal.insert-init
 insert-init c = (
   fills-first _ _ _ c.new-set.ensures.empty c.into_iter-policy-iterator.ensures.into_iter_gives.0,
   placed_none c.new-index.result _ (ap values_of c.new-set.ensures.empty),
-  nothing_filed c.new-index.result _ c.new-index.ensures.rest c.new-index.ensures.groups,
+  nothing_filed c.new-index.result _ c.new-index.ensures.rest c.new-index.ensures.groups c.new-index.ensures.types,
 )
 
 pub insert-preserved : goal.insert-preserved

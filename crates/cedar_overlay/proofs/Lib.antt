@@ -1,0 +1,2 @@
+mod Laid
+mod Parts

@@ -1,0 +1,12 @@
+use Rattle.std.proofs.Common.{◌≡◌, true, map}
+use Rattle.std.specs.Rc.{rc_str_bytes}
+use Rattle.cedar_layers.specs.Parts.{parts_view, are_restricted_parts}
+use Rattle.cedar_layers.specs.Stores.{entity_view}
+use Rattle.cedar_overlay.proofs.Parts.{AreUnderWay}
+use Rattle.cedar_overlay.proofs.copies.copied_tags.Given as goal
+
+abbrev pub invariant-names : goal.invariant-names
+invariant-names l = record {
+  way : AreUnderWay (entity_view l.fn.entity).tags (map rc_str_bytes l.name-iterator) (parts_view l.tags.entries);
+  restricted : are_restricted_parts (parts_view l.tags.entries) ≡ true;
+}

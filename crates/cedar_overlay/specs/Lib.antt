@@ -1,0 +1,3 @@
+pub mod Overlaid
+pub mod Putting
+pub mod Texts

@@ -1,0 +1,18 @@
+//! What a request brings beside a store that is kept: attributes of stored entities.
+//!
+//! The kept store stays as it is, and its entities are shared: what a request costs goes by what it brings.
+//!
+//! - `attributes`: attributes beside those of stored entities; `copies`: the parts of an entity, and more beside them.
+//! - `error`: why nothing was laid over the store.
+//!
+//! The promise: the answer is the store of both, by a definition on plain data (clause `store` of `with_attributes`;
+//! `specs/Overlaid.antt`). What the store has is never overwritten in silence: a refusal names the entity and the
+//! attribute (`refused`), and there is none where nothing is refused (`accepted`).
+#![tactic(auto)]
+
+mod attributes;
+mod copies;
+mod error;
+
+pub use attributes::with_attributes;
+pub use error::AttributesError;
