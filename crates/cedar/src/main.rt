@@ -1,7 +1,7 @@
 //! Cedar's command line, as a program. `cedar --help` says which commands there are, and `docs/COMMANDS.md` describes
 //! them.
 //!
-//! - `main`: hands the words of the command line to `answer_command` of `cedar_cli`, prints what it answers (the answer
+//! - `main`: hands the words of the command line to `answer_command` of `cedar_commands`, prints what it answers (the answer
 //!   on standard output, warnings and refusals on standard error), and ends with its status.
 //!
 //! The statuses 1 and 3 are set here: `REFUSED`, where a question is not answered or its answer can't be printed, and
@@ -11,7 +11,7 @@
 //! is in `data/`, and what is printed of it is compared with README's text.
 #![tactic(auto)]
 
-use cedar_cli::{Answer, answer_command};
+use cedar_commands::{Answer, answer_command};
 use std::env::{Env, FillError};
 use std::process::ExitCode;
 use std::rt::Files;

@@ -1,9 +1,7 @@
-//! Cedar's command line: what is answered to questions that are asked in Cedar's text and JSON, and the commands that
-//! ask them, over any host. Each question is answered by the whole text that is to be printed, or refused: then nothing
-//! is to be printed but why. What a reader of an answer would not see by it is told beside it, on standard error.
+//! What Cedar's command line answers to questions that are asked in Cedar's text and JSON; `cedar_commands` asks them.
+//! Each question is answered by the whole text that is to be printed, or refused: then nothing is to be printed but
+//! why. What a reader of an answer would not see by it is told beside it, on standard error.
 //!
-//! - `commands`: the commands and their arguments, which `clap` reads. `files`: the files that arguments name. `run`:
-//!   `answer_command`, which takes the words of a command line.
 //! - `asked`, `policies`, `stores`, `ancestors`, `reading`, `limits`: what is asked, and the policies, entities,
 //!   requests and limits.
 //! - `decisions`, `explanations`, `partial`, `stages`, `steps`, `left`, `evaluations`: what is answered. `batch`: what
@@ -21,20 +19,18 @@
 //! comments. Below a decision `authorize_and_explain` prints why (`specs/Explained`); `check_strictly` tells policies
 //! that can't be meant (`specs/Strict`), and `translate_to_json` prints policies as JSON (`specs/Translated`). Words
 //! and statuses go by `specs/Printing`, policies' names by `specs/Named`, what is printed as JSON by `specs/Documents`,
-//! lines and columns by `specs/Noted`. A refused run has nothing to print by its type (`Answer`).
+//! lines and columns by `specs/Noted`.
 //! `docs/COMMANDS.md` describes each command and where these promises end; the rest is tested by `cedar_test_cli`.
 #![tactic(auto)]
 
 mod ancestors;
 mod asked;
 mod batch;
-mod commands;
 mod decisions;
 mod documents;
 mod evaluations;
 mod explanations;
 mod faults;
-mod files;
 mod left;
 mod limits;
 mod partial;
@@ -44,7 +40,6 @@ mod readable;
 mod reading;
 mod refusal;
 mod repeated;
-mod run;
 mod stages;
 mod steps;
 mod stores;
@@ -63,6 +58,5 @@ pub use explanations::authorize_and_explain;
 pub use partial::partially_authorize;
 pub use policies::{check_format, check_policies, format_policies};
 pub use refusal::{Refusal, refuse_with_line};
-pub use run::{Answer, answer_command};
 pub use strictness::check_strictly;
 pub use translations::translate_to_json;

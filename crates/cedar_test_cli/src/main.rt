@@ -6,7 +6,7 @@
 //!   standard error that are wanted.
 //! - `words`: the words of a command line.
 //!
-//! Each run goes through `answered` of `cedar_cli`, as the program `cedar` does; the files that it names are in
+//! Each run goes through `answer_command` of `cedar_commands`, as the program `cedar` does; the files that it names are in
 //! `data/`.
 //!
 //! The promise is the checker's alone: the program stays within its memory and comes to an end. How many runs hold is

@@ -3,7 +3,7 @@
 //! may be two, stands for any lines. All
 //! other lines are comments.
 use crate::words::words_of;
-use cedar_cli::{Answer, answer_command};
+use cedar_commands::{Answer, answer_command};
 use std::alloc::{AllocError, Global};
 use std::rt::Files;
 use std::{fs, io};

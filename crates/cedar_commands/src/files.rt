@@ -1,5 +1,5 @@
 //! The files that arguments name. `-` is standard input, which is read once.
-use crate::{Refusal, Source, Step, refuse_with_line};
+use cedar_cli::{Refusal, Source, Step, refuse_with_line};
 use clap::ArgMatches;
 use std::alloc::Global;
 use std::io::Read;

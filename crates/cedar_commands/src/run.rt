@@ -1,11 +1,10 @@
 //! Runs a command.
-use crate::batch::authorize_each;
 use crate::commands::cedar;
 use crate::files::Texts;
-use crate::{
+use cedar_cli::{
     Asked, ErrorHandling, Printed, Refusal, Source, Step, Way, authorize, authorize_and_explain,
-    check_format, check_policies, check_strictly, evaluate_expression, format_policies,
-    partially_authorize, translate_to_json,
+    authorize_each, check_format, check_policies, check_strictly, evaluate_expression,
+    format_policies, partially_authorize, translate_to_json,
 };
 use cedar_policy_core::ast::{Extension, ExtensionFunction, Name};
 use cedar_policy_core::extensions::Extensions;
