@@ -90,6 +90,19 @@ fn why(
     Ok(why)
 }
 
+/// Tells of each template, of the policies of this text, that it decides nothing.
+pub fn tell_templates(
+    alloc: Global,
+    source: Source<'_>,
+    templates: &[Policy],
+    warnings: &mut String,
+) -> Result<(), AllocError> {
+    let places = Places::of(alloc, source)?;
+    let told = push_templates(alloc, &places, templates, warnings);
+    drop(places);
+    told
+}
+
 /// Tells of each template that it decides nothing.
 pub(crate) fn push_templates(
     alloc: Global,
