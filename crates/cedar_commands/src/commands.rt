@@ -20,6 +20,7 @@ pub(crate) fn cedar<'a>(alloc: Global) -> Result<Command<'a>, AllocError> {
         .subcommand_required(true)
         .arg_required_else_help(true)
         .subcommand(authorize(alloc)?)?
+        .subcommand(diff(alloc)?)?
         .subcommand(partially_authorize(alloc)?)?
         .subcommand(evaluate(alloc)?)?
         .subcommand(check_parse(alloc)?)?
@@ -68,20 +69,19 @@ fn with_request<'a>(alloc: Global, command: Command<'a>) -> Result<Command<'a>, 
     let action = option(alloc, "action", "ENTITY", "What to do, as Action::\"view\"");
     let resource = option(alloc, "resource", "ENTITY", "With what, as Photo::\"trip\"");
     let context = option(alloc, "context", "FILE", "The context, a record in JSON");
-    let entities = option(
-        alloc,
-        "entities",
-        "FILE",
-        "The entities, in JSON, with their parents",
-    );
     command
         .arg(principal.short('l'))?
         .arg(action.short('a'))?
         .arg(resource.short('r'))?
         .arg(context.short('c'))?
         .arg(request_json(alloc)?)?
-        .arg(entities)?
+        .arg(entities(alloc))?
         .arg(max_ancestors(alloc))
+}
+
+fn entities<'a>(alloc: Global) -> Arg<'a> {
+    let help = "The entities, in JSON, with their parents";
+    option(alloc, "entities", "FILE", help)
 }
 
 fn max_ancestors<'a>(alloc: Global) -> Arg<'a> {
@@ -125,6 +125,25 @@ fn authorize<'a>(alloc: Global) -> Result<Command<'a>, AllocError> {
         .arg(explain(alloc)?)?
         .arg(no_values(alloc)?)?;
     with_request(alloc, command)
+}
+
+fn diff<'a>(alloc: Global) -> Result<Command<'a>, AllocError> {
+    let with = option(alloc, "with", "FILE", "The new policies, in Cedar's text");
+    let requests = option(
+        alloc,
+        "requests",
+        "FILE",
+        "The requests, each a line of JSON as --request-json has it",
+    );
+    Command::new(alloc, "diff")
+        .about("What new policies answer differently, a line of JSON for each request (status 2)")
+        .arg(policies(alloc))?
+        .arg(with.required(true))?
+        .arg(requests.required(true))?
+        .arg(error_handling(alloc))?
+        .arg(limit(alloc))?
+        .arg(entities(alloc))?
+        .arg(max_ancestors(alloc))
 }
 
 fn explain<'a>(alloc: Global) -> Result<Arg<'a>, AllocError> {

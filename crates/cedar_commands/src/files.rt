@@ -12,8 +12,9 @@ const INPUT: &str = "-";
 const INPUT_NAME: &str = "standard input";
 
 // The options that name one file.
-const FILE_OPTIONS: [&str; 5] = [
+const FILE_OPTIONS: [&str; 6] = [
     "policies",
+    "with",
     "context",
     "request-json",
     "requests",
@@ -38,6 +39,7 @@ struct StepFiles {
 #[derive(Drop)]
 pub(crate) struct Texts {
     policies: Option<File>,
+    with: Option<File>,
     context: Option<File>,
     request: Option<File>,
     requests: Option<File>,
@@ -53,6 +55,7 @@ impl Texts {
     ) -> Result<Texts, Refusal> {
         refuse_second_input(rt.alloc(), matches)?;
         let policies = text_of(rt, matches.get_str("policies"))?;
+        let with = text_of(rt, matches.get_str("with"))?;
         let context = text_of(rt, matches.get_str("context"))?;
         let request = text_of(rt, matches.get_str("request-json"))?;
         let requests = text_of(rt, matches.get_str("requests"))?;
@@ -60,6 +63,7 @@ impl Texts {
         let steps = step_files(rt, matches)?;
         Ok(Texts {
             policies,
+            with,
             context,
             request,
             requests,
@@ -70,13 +74,12 @@ impl Texts {
 
     /// The policies: of no file, if none is named.
     pub(crate) fn policies(&self) -> Source<'_> {
-        match source(&self.policies) {
-            Some(source) => source,
-            None => Source {
-                name: "--policies",
-                text: "",
-            },
-        }
+        source_or(&self.policies, "--policies")
+    }
+
+    /// The new policies: of no file, if none is named.
+    pub(crate) fn new_policies(&self) -> Source<'_> {
+        source_or(&self.with, "--with")
     }
 
     /// The context, if its file is named.
@@ -124,6 +127,14 @@ fn step_of(files: &StepFiles, is_partial: bool, max_ancestors: Option<usize>) ->
         entities: source(&files.entities),
         is_partial,
         max_ancestors,
+    }
+}
+
+// Of no file, if none is named: then it is called so.
+fn source_or<'a>(file: &'a Option<File>, name: &'static str) -> Source<'a> {
+    match file {
+        Some(file) => source_of(file),
+        None => Source { name, text: "" },
     }
 }
 

@@ -8,6 +8,7 @@ use cedar_cli::{
 };
 use cedar_policy_core::ast::{Extension, ExtensionFunction, Name};
 use cedar_policy_core::extensions::Extensions;
+use cedar_regression::compare_policies;
 use clap::error::ErrorKind;
 use clap::{ArgMatches, Error};
 use std::alloc::Global;
@@ -102,12 +103,9 @@ fn run_with(
 ) -> Result<Printed, Refusal> {
     let policies = texts.policies();
     let asked = read_question(matches, texts);
-    // `authorize` alone takes these.
-    if let Some(requests) = texts.requests() {
-        return authorize_each(alloc, policies, &asked, requests, way(matches));
-    }
     match name {
-        "authorize" => decide(alloc, policies, &asked, matches),
+        "diff" => compare(alloc, &asked, matches, texts),
+        "authorize" => decide(alloc, &asked, matches, texts),
         "partially-authorize" => partial(alloc, &asked, matches, texts),
         "evaluate" => {
             let is_json = matches.get_flag("json");
@@ -119,14 +117,29 @@ fn run_with(
     }
 }
 
-// With `--explain` also why.
-fn decide(
+fn compare(
     alloc: Global,
-    policies: Source<'_>,
     asked: &Asked<'_, '_>,
     matches: &ArgMatches<'_>,
+    texts: &Texts,
 ) -> Result<Printed, Refusal> {
+    let requests = texts.requests().unwrap_or("");
+    let new = texts.new_policies();
+    compare_policies(alloc, texts.policies(), new, asked, requests, way(matches))
+}
+
+// With `--requests` many, with `--explain` also why.
+fn decide(
+    alloc: Global,
+    asked: &Asked<'_, '_>,
+    matches: &ArgMatches<'_>,
+    texts: &Texts,
+) -> Result<Printed, Refusal> {
+    let policies = texts.policies();
     let way = way(matches);
+    if let Some(requests) = texts.requests() {
+        return authorize_each(alloc, policies, asked, requests, way);
+    }
     if matches.get_flag("explain") {
         let has_values = !matches.get_flag("no-values");
         authorize_and_explain(alloc, policies, asked, way, has_values)

@@ -1,0 +1,20 @@
+//! What policies answer, compared: two answers with each other, and an answer with the one that is expected.
+//!
+//! - `answers`: `Answer`, a decision with the names of the policies that determined it and the texts of the errors.
+//! - `lists`: the texts of one list that another doesn't have.
+//! - `differences`: what differs between two answers to one request, as a JSON value.
+//! - `comparisons`: `compare`, that on a line, and `Comparisons`, the lines of many requests.
+//!
+//! The promise: two answers differ exactly where the decisions do, or one has a reason or an error that the other
+//! doesn't have; then a line is printed which says both decisions, and of reasons and errors those that one answer has
+//! alone (`compare`, over `compared` of `specs/Compared.antt` and `difference_json` of `specs/Differences.antt`). The
+//! order in which reasons and errors stand, and how often each does, make no difference.
+#![tactic(auto)]
+
+mod answers;
+mod comparisons;
+mod differences;
+mod lists;
+
+pub use answers::Answer;
+pub use comparisons::{Comparison, Comparisons, compare};

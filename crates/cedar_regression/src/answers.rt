@@ -1,0 +1,90 @@
+//! What policies answer to one request.
+ghost use Rattle.std.specs.Prelude.{◌≡◌, IfOk, IfErr};
+ghost use Rattle.cedar_extensions.specs.Extensions.{extensions_view, calls_of};
+ghost use Rattle.cedar_authorizer.specs.responses.Responses.{response_view};
+ghost use Rattle.cedar_expectations.specs.Answers.{answer_view};
+ghost use Rattle.cedar_cli.specs.Authorized.{IsResponseTo};
+ghost use Rattle.cedar_cli.specs.Reasons.{IsToldFor, IsRequestUnread};
+ghost use Rattle.cedar_regression.specs.Answered.{IsAnswerOver};
+ghost use Rattle.cedar_regression.specs.Compared.{AreBothOver};
+
+use crate::names::answer_in;
+use cedar_cli::{Asked, Refusal, Way, text_limit, whole_request};
+use cedar_expectations::Answer;
+use cedar_policy_core::ast::{PolicySet, Request};
+use cedar_policy_core::authorizer::{Authorizer, Response};
+use cedar_policy_core::entities::Entities;
+use cedar_policy_core::extensions::Extensions;
+use std::alloc::{AllocError, Global};
+
+/// Entities that requests are asked over, and in which way they are answered.
+#[derive(Clone, Copy)]
+pub(crate) struct Over<'a> {
+    pub(crate) entities: &'a Entities,
+    pub(crate) way: Way,
+}
+
+/// The answers of the old policies and of the new ones to one request.
+#[derive(Drop)]
+pub(crate) struct Both {
+    pub(crate) old: Answer,
+    pub(crate) new: Answer,
+}
+
+/// What the old and the new policies answer to the request that is asked.
+pub(crate) fn both_answers(
+    alloc: Global,
+    old: &PolicySet,
+    new: &PolicySet,
+    over: Over<'_>,
+    asked: &Asked<'_, '_>,
+    extensions: &Extensions<'_>,
+) -> Result<Both, Refusal>
+    ensures answered { IfOk result (AreBothOver (extensions_view extensions.now) (calls_of extensions.now) old.now
+        new.now over.entry.entities.now over.entry.way asked.now) }
+    ensures refused { IfErr result (IsToldFor
+        (IsRequestUnread (extensions_view extensions.now) (calls_of extensions.now) asked.now)) }
+{
+    let old = answer_of(alloc, old, over, asked, extensions)?;
+    let new = answer_of(alloc, new, over, asked, extensions)?;
+    Ok(Both { old, new })
+}
+
+/// What the policies answer to the request that is asked.
+pub(crate) fn answer_of(
+    alloc: Global,
+    policies: &PolicySet,
+    over: Over<'_>,
+    asked: &Asked<'_, '_>,
+    extensions: &Extensions<'_>,
+) -> Result<Answer, Refusal>
+    ensures answered { IfOk result (λ a. IsAnswerOver (extensions_view extensions.now) (calls_of extensions.now)
+        policies.now over.entry.entities.now over.entry.way asked.now (answer_view a)) }
+    ensures refused { IfErr result (IsToldFor
+        (IsRequestUnread (extensions_view extensions.now) (calls_of extensions.now) asked.now)) }
+{
+    let request = whole_request(alloc, asked, extensions)?;
+    let response = respond(alloc, request, policies, over, extensions)?;
+    let answer = answer_in(alloc, policies, &response);
+    drop(response);
+    Ok(answer?)
+}
+
+// The response to the request. Nothing is unknown in what is decided here, so that no condition that was read meets the
+// limit of the text.
+fn respond(
+    alloc: Global,
+    request: Request,
+    policies: &PolicySet,
+    over: Over<'_>,
+    extensions: &Extensions<'_>,
+) -> Result<Response, AllocError>
+    ensures { IfOk result (λ r. IsResponseTo (extensions_view extensions.now) (calls_of extensions.now)
+        policies.now over.entry.entities.now request over.entry.way (response_view r)) }
+{
+    let limit = over.way.limit.unwrap_or(text_limit());
+    let authorizer = Authorizer::new(extensions, limit).with_error_handling(
+        over.way.error_handling,
+    );
+    authorizer.is_authorized(alloc, request, policies, over.entities)
+}
