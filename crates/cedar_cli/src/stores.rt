@@ -30,13 +30,17 @@ pub(crate) struct Given<'a> {
 
 /// A store, and how many levels the highest attribute or tag in it has.
 #[derive(Drop)]
-pub(crate) struct Store {
-    pub(crate) entities: Entities,
-    pub(crate) height: usize,
+pub struct Store {
+    /// The entities, each with all its ancestors.
+    pub entities: Entities,
+    /// How many levels the highest attribute or tag of an entity that was read has.
+    pub height: usize,
 }
 
-/// The store of the entities that are given, each with all its ancestors.
-pub(crate) fn given_store(
+/// The store of the entities that are given, each with all its ancestors: where none are given, without any. Which
+/// entities are left out is told. Refused where they can't be read, their parents lead in a circle, or they have more
+/// ancestors than they may have.
+pub fn given_store(
     alloc: Global,
     asked: &Asked<'_, '_>,
     extensions: &Extensions<'_>,

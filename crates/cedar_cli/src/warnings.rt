@@ -10,6 +10,7 @@ use crate::visible::push_visible;
 use cedar_policy_core::ast::{EntityUID, Policy, PolicyID, PolicySet};
 use cedar_policy_core::authorizer::AuthorizationError;
 use cedar_policy_core::evaluator::EvaluationError;
+use cedar_policy_core::parser::ParsedPolicies;
 use std::alloc::{AllocError, Global};
 use std::collections::BTreeSet;
 use std::rc::RcStr;
@@ -18,11 +19,7 @@ use std::rc::RcStr;
 pub(crate) const MOST: usize = 20;
 
 /// Puts `warning: LINE` behind the others.
-pub(crate) fn push_warning(
-    alloc: Global,
-    line: &str,
-    warnings: &mut String,
-) -> Result<(), AllocError>
+pub fn push_warning(alloc: Global, line: &str, warnings: &mut String) -> Result<(), AllocError>
     ensures { OnOk result ((told : _) × IsWarning line.now told
         × (string_bytes warnings.new ≡ string_bytes warnings.old ++ told)) }
 {
@@ -38,6 +35,25 @@ pub(crate) struct Deciding<'p> {
     pub(crate) places: &'p Places<'p>,
     pub(crate) policies: &'p PolicySet,
     pub(crate) way: Way,
+}
+
+/// Tells of the templates of this text that they decide nothing, and why policies of it erred, each with its place.
+pub fn push_told_of_policies(
+    alloc: Global,
+    source: Source<'_>,
+    parsed: &ParsedPolicies,
+    way: Way,
+    errors: &[AuthorizationError],
+    warnings: &mut String,
+) -> Result<(), AllocError> {
+    let places = Places::of(alloc, source)?;
+    push_templates(alloc, &places, &parsed.templates, warnings)?;
+    let deciding = Deciding {
+        places: &places,
+        policies: &parsed.policies,
+        way,
+    };
+    push_errors(alloc, deciding, errors, warnings)
 }
 
 /// Puts the errors of policies behind the others, each with its place in the text of the policies.
