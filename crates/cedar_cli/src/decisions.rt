@@ -133,7 +133,7 @@ pub(crate) fn print_document(
 }
 
 /// The JSON value as text, on a line of its own.
-pub(crate) fn line_of(alloc: Global, document: &JsonValue) -> Result<String, AllocError>
+pub fn line_of(alloc: Global, document: &JsonValue) -> Result<String, AllocError>
     ensures { IfOk result (λ s. string_bytes s ≡ print (json_tokens (json_view document.now)) ++ codes "\n") }
 {
     let mut line = document.to_text(alloc)?;

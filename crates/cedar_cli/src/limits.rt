@@ -14,7 +14,7 @@ pub(crate) const LEVELS: usize = 4000;
 pub(crate) const STEPS: usize = 1000;
 
 /// How many levels the condition of a policy that was read has at most: one more than its clauses.
-pub(crate) fn text_limit() -> usize
+pub fn text_limit() -> usize
     ensures { result ≡ 4001 }
 {
     LEVELS + 1

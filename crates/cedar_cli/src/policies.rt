@@ -41,7 +41,8 @@ pub(crate) fn read(
     }
 }
 
-/// The policies that the text writes, which call functions of these extensions alone: refused where they can't be read.
+/// The policies that the text writes, which call functions of these extensions alone. Refused where it can't be read: the
+/// first errors are told, each with its place, and how many more there are.
 pub fn read_over(
     alloc: Global,
     source: Source<'_>,
@@ -220,8 +221,8 @@ pub fn with_id<'a>(policies: &'a PolicySet, id: &PolicyID) -> Option<&'a Policy>
     None
 }
 
-/// Writes how the policy is called: by its annotation `id` or, where it has none, by its id.
-pub(crate) fn push_name(alloc: Global, policy: &Policy, out: &mut String) -> Result<(), AllocError>
+/// Writes how the policy is called behind the text: by its annotation `id` or, where it has none, by its id.
+pub fn push_name(alloc: Global, policy: &Policy, out: &mut String) -> Result<(), AllocError>
     ensures { OnOk result
         (string_bytes out.new ≡ string_bytes out.old ++ policy_name (policy_view policy.now)) }
 {

@@ -31,15 +31,13 @@ pub(crate) struct Given<'a> {
 /// A store, and how many levels the highest attribute or tag in it has.
 #[derive(Drop)]
 pub struct Store {
-    /// The entities, each with all its ancestors.
     pub entities: Entities,
-    /// How many levels the highest attribute or tag of an entity that was read has.
     pub height: usize,
 }
 
-/// The store of the entities that are given, each with all its ancestors: where none are given, without any. Which
-/// entities are left out is told. Refused where they can't be read, their parents lead in a circle, or they have more
-/// ancestors than they may have.
+/// The store of the entities that are given, each with all its ancestors; where none are given, that without any. Refused
+/// where the entities can't be read, where parents lead back to an entity, and where they have more ancestors in all than
+/// they may. Those that are left out of entities of which there may be more are told as warnings.
 pub fn given_store(
     alloc: Global,
     asked: &Asked<'_, '_>,

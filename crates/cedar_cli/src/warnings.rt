@@ -10,7 +10,6 @@ use crate::visible::push_visible;
 use cedar_policy_core::ast::{EntityUID, Policy, PolicyID, PolicySet};
 use cedar_policy_core::authorizer::AuthorizationError;
 use cedar_policy_core::evaluator::EvaluationError;
-use cedar_policy_core::parser::ParsedPolicies;
 use std::alloc::{AllocError, Global};
 use std::collections::BTreeSet;
 use std::rc::RcStr;
@@ -37,23 +36,24 @@ pub(crate) struct Deciding<'p> {
     pub(crate) way: Way,
 }
 
-/// Tells of the templates of this text that they decide nothing, and why policies of it erred, each with its place.
-pub fn push_told_of_policies(
+/// Tells why policies of this text erred, each with its place.
+pub fn tell_errors(
     alloc: Global,
     source: Source<'_>,
-    parsed: &ParsedPolicies,
+    policies: &PolicySet,
     way: Way,
     errors: &[AuthorizationError],
     warnings: &mut String,
 ) -> Result<(), AllocError> {
     let places = Places::of(alloc, source)?;
-    push_templates(alloc, &places, &parsed.templates, warnings)?;
     let deciding = Deciding {
         places: &places,
-        policies: &parsed.policies,
+        policies,
         way,
     };
-    push_errors(alloc, deciding, errors, warnings)
+    let told = push_errors(alloc, deciding, errors, warnings);
+    drop(places);
+    told
 }
 
 /// Puts the errors of policies behind the others, each with its place in the text of the policies.
@@ -104,6 +104,19 @@ fn why(
         push_limit(alloc, deciding.way.limit, &mut why)?;
     }
     Ok(why)
+}
+
+/// Tells of each template, of the policies of this text, that it decides nothing.
+pub fn tell_templates(
+    alloc: Global,
+    source: Source<'_>,
+    templates: &[Policy],
+    warnings: &mut String,
+) -> Result<(), AllocError> {
+    let places = Places::of(alloc, source)?;
+    let told = push_templates(alloc, &places, templates, warnings);
+    drop(places);
+    told
 }
 
 /// Tells of each template that it decides nothing.

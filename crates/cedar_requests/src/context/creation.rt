@@ -1,5 +1,5 @@
 //! How contexts are made of restricted expressions.
-ghost use Rattle.std.specs.Prelude.{◌≡◌, ◌≢◌, ◌≤◌, true, false, IfOk, IfErr};
+ghost use Rattle.std.specs.Prelude.{◌≡◌, ◌≢◌, ◌≤◌, true, false, Some, IfOk, IfErr};
 ghost use Rattle.cedar_model.specs.Terms.{record_of};
 ghost use Rattle.cedar_model.specs.Values.{record_represented};
 ghost use Rattle.cedar_model.specs.Shapes.{is_restricted};
@@ -18,6 +18,7 @@ ghost use Rattle.cedar_restricted.specs.Views.{borrowed_term, borrowed_loc, pair
 ghost use Rattle.cedar_restricted.specs.Parts.{HasKeys, count, answered_locs};
 ghost use Rattle.cedar_restricted.specs.declared.whole.Whole.TheVariants.{Record};
 ghost use Rattle.cedar_requests.specs.Contexts.{context_view, context_part_value, context_pairs, context_locs};
+ghost use Rattle.cedar_requests.specs.Contexts.{context_values};
 ghost use Rattle.cedar_requests.specs.Contexts.{residual_fields, value_locs};
 ghost use Rattle.cedar_requests.specs.Substitutions.{context_answer, IsRecordOf, IsRestrictedRecord};
 ghost use Rattle.cedar_requests.specs.declared.context.pairs.ContextPairs.TheVariants.{Residual};
@@ -87,9 +88,11 @@ impl Context {
         }
     }
 
-    // The context of these values, which its copies share.
-    pub(super) fn of_shared(alloc: Global, values: Rc<BTreeMap<RcStr, Value>>) -> Context
+    /// The context of these attributes with their values, which whoever else holds them and its copies share. It takes
+    /// no memory: `alloc` is for the expressions that the context is walked as.
+    pub fn from_shared_values(alloc: Global, values: Rc<BTreeMap<RcStr, Value>>) -> Context
         ensures view { context_view result ≡ known_context (whats_at values.value.entries) }
+        ensures map { context_values result ≡ Some values.value }
         ensures places { context_locs result ≡ value_locs values.value }
     {
         Context {
@@ -172,7 +175,7 @@ fn of_part(alloc: Global, part: PartialValue) -> Result<Context, AllocError>
     ensures { IfOk result (λ c. context_part_value c ≡ partial_view part) }
 {
     match part {
-        PartialValue::Value(value) => Ok(Context::of_shared(alloc, values_in(value)?)),
+        PartialValue::Value(value) => Ok(Context::from_shared_values(alloc, values_in(value)?)),
         PartialValue::Residual(residual) => Ok(Context::of_residual(alloc, pairs_of(residual)?)),
     }
 }
@@ -192,7 +195,7 @@ pub(super) fn of_answers(
     match answers {
         Answers::Values(values) => {
             let values = map_under(alloc, keys, values)?;
-            Ok(Context::of_shared(alloc, Rc::new(alloc, values)?))
+            Ok(Context::from_shared_values(alloc, Rc::new(alloc, values)?))
         }
         Answers::Mixed(mixed) => {
             let pairs = map_under(alloc, keys, mixed.into_exprs())?;
