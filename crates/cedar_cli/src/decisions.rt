@@ -389,8 +389,8 @@ fn push_name_line(alloc: Global, policy: &Policy, lines: &mut String) -> Result<
     Ok(())
 }
 
-/// How the policy is called, as it is told.
-pub(crate) fn push_visible_name(
+/// Puts how the policy is called behind the rest, as it is told: what could be taken for another line is shown.
+pub fn push_visible_name(
     alloc: Global,
     policy: &Policy,
     output: &mut String,

@@ -28,7 +28,7 @@ pub(crate) fn expression_limit(expr: &Expr, request: &Request, stored: usize) ->
 
 /// How many levels are evaluated where parts may be unknown: as many as are set or, where none are, as many as there
 /// can be, so that no policy meets the limit.
-pub(crate) fn levels_within(limit: Option<usize>) -> usize
+pub fn levels_within(limit: Option<usize>) -> usize
     ensures { result ≡ levels_in limit }
 {
     limit.unwrap_or(usize::MAX)

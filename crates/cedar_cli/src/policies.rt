@@ -211,8 +211,8 @@ fn is_unreadable(alloc: Global, source: Source<'_>) -> Refusal {
     refuse_with_line(alloc, format!(in alloc; "{name}: a token can't be read"))
 }
 
-/// The policy of this id.
-pub(crate) fn with_id<'a>(policies: &'a PolicySet, id: &PolicyID) -> Option<&'a Policy> {
+/// The policy of this id, if there is one.
+pub fn with_id<'a>(policies: &'a PolicySet, id: &PolicyID) -> Option<&'a Policy> {
     for policy in policies.policies() {
         if policy.id() == id {
             return Some(policy);
