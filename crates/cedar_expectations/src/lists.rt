@@ -64,7 +64,7 @@ fn has_text(texts: &[String], text: &str) -> bool
     false
 }
 
-#[tactic(auto, unfolding(cedar_expectations::specs::Lists::has_more))]
+#[tactic(auto, unfolding(crate::specs::Lists::has_more))]
 fn has_more(texts: &[String], others: &[String]) -> bool
     ensures { result ≡ has_more (map string_bytes texts.now) (map string_bytes others.now) }
 {

@@ -122,9 +122,10 @@ fn compare_text(
         sides.entry.over.way (lines requests.now)) }
 {
     let lines = lines_of(alloc, requests)?;
-    let all = compare_lines(alloc, sides, &lines, extensions);
+    let compared = compare_lines(alloc, sides, &lines, extensions);
     drop(lines);
-    Ok(print_all(all?, warnings))
+    let all = compared?;
+    Ok(print_all(all, warnings))
 }
 
 // The lines of the text, without their ends: an empty one at its end is none.

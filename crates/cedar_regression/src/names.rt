@@ -132,7 +132,8 @@ fn error_text(
     let AuthorizationError::PolicyEvaluationError { id, error } = error;
     let name = name_under(alloc, policies, id)?;
     let message = message_of(alloc, error)?;
-    format!(in alloc; "{name}: {message}")
+    let text = format!(in alloc; "{name}: {message}")?;
+    Ok(text)
 }
 
 // The name of the policy of this id; of an id that no policy has, the id.
