@@ -1,5 +1,6 @@
 //! How an answer calls policies, and what its errors say.
 ghost use Rattle.std.specs.Prelude.{◌≡◌, ◌++◌, map, IfOk, OnOk, string_bytes};
+ghost use Rattle.cedar_model.specs.Outcomes.{text_eq};
 ghost use Rattle.cedar_errors.specs.Failures.{failure_of};
 ghost use Rattle.cedar_layers.specs.Policies.{policy_view, policy_id_text};
 ghost use Rattle.cedar_layers.specs.PolicySets.{policies_view};
@@ -142,10 +143,22 @@ fn name_under(alloc: Global, policies: &PolicySet, id: &PolicyID) -> Result<Stri
         (λ s. string_bytes s ≡ name_under (policy_id_text id.now) (policies_view policies.now)) }
 {
     'policies: for policy in policies.policies() {
-        if policy.id() == id {
+        if is_of(policy, id) {
             return name_of(alloc, policy);
         }
     }
+    id_text(alloc, id)
+}
+
+fn is_of(policy: &Policy, id: &PolicyID) -> bool
+    ensures { result ≡ text_eq (policy_view policy.now).id (policy_id_text id.now) }
+{
+    policy.id() == id
+}
+
+fn id_text(alloc: Global, id: &PolicyID) -> Result<String, AllocError>
+    ensures { IfOk result (λ s. string_bytes s ≡ policy_id_text id.now) }
+{
     id.to_string(alloc)
 }
 

@@ -23,7 +23,8 @@ texts-preserved c =
     let one = unless_in others (string_bytes item) in
     let rest = only_in (map string_bytes (drop (i + 1) items)) others in
     goes_on (map json_view c.texts.items.items) _ _ (map string one) (map string rest) _
-    c.in_ok-put_unless_in.ensures
+    (c.in_ok-put_unless_in.ensures
+    ∙ ap (λ t. map json_view c.texts.items.items ++ map string (unless_in others t)) c.as_str.ensures.value)
     (ap (λ ts. map string (only_in (map string_bytes ts) others)) next ∙ strings_split one rest)
     c.texts.invariant
 
