@@ -1,2 +1,4 @@
 pub mod Listing
 pub mod Comparing
+pub mod Texts
+pub mod Calls

@@ -1,4 +1,5 @@
 pub mod Answers
+pub mod Named
 pub mod Lists
 pub mod Differences
 pub mod Compared

@@ -1,6 +1,7 @@
-//! What policies answer, compared: two answers with each other, and an answer with the one that is expected.
+//! What policies answer to a request, and what two answers differ in.
 //!
 //! - `answers`: `Answer`, a decision with the names of the policies that determined it and the texts of the errors.
+//!   `names`: `answer_in`, that of a response; how policies are called, and what errors say.
 //! - `lists`: the texts of one list that another doesn't have.
 //! - `differences`: what differs between two answers to one request, as a JSON value.
 //! - `comparisons`: `compare`, that on a line, and `Comparisons`, the lines of many requests.
@@ -15,6 +16,8 @@ mod answers;
 mod comparisons;
 mod differences;
 mod lists;
+mod names;
 
 pub use answers::Answer;
 pub use comparisons::{Comparison, Comparisons, compare};
+pub use names::answer_in;

@@ -18,7 +18,7 @@ use Rattle.cedar_cli.specs.declared.asked.Way.{Way}
 use Rattle.cedar_cli.specs.Authorized.{IsResponseTo, IsExact}
 use Rattle.cedar_cli.specs.Questions.{levels, IsWholeRequest, IsGivenStore}
 use Rattle.cedar_cli.specs.Standard.{standard_extensions, standard_calls, standard_knowledge}
-use Rattle.cedar_regression.specs.Named.{IsAnswerIn}
+use Rattle.cedar_expectations.specs.Named.{IsAnswerIn}
 
 -- of these policies and this store: there is a request that is asked, and a response to it, which says this
 pub record IsAnswerOver (X : world.Extensions) (calls : StoredCalls) (ps : PolicySet) (s : Entities) (w : Way)

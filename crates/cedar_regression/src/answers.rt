@@ -8,9 +8,8 @@ ghost use Rattle.cedar_cli.specs.Reasons.{IsToldFor, IsRequestUnread};
 ghost use Rattle.cedar_regression.specs.Answered.{IsAnswerOver};
 ghost use Rattle.cedar_regression.specs.Compared.{AreBothOver};
 
-use crate::names::answer_in;
 use cedar_cli::{Asked, Refusal, Way, text_limit, whole_request};
-use cedar_expectations::Answer;
+use cedar_expectations::{Answer, answer_in};
 use cedar_policy_core::ast::{PolicySet, Request};
 use cedar_policy_core::authorizer::{Authorizer, Response};
 use cedar_policy_core::entities::Entities;

@@ -1,7 +1,7 @@
-//! What policies answer to many requests, against what others answer, and against what is expected.
+//! What policies answer to many requests, against what others answer.
 //!
 //! - `comparisons`: `compare_policies`, what two sets of policies answer differently.
-//! - `answers`: what policies answer to one request. `names`: how an answer calls policies, and what errors say.
+//! - `answers`: what policies answer to one request.
 //!
 //! The promise, from the texts and the options on: `compare_policies` prints a line of JSON, in the order of the
 //! requests, for each that the old and the new policies answer differently, with what differs, one for each request that
@@ -14,6 +14,5 @@
 
 mod answers;
 mod comparisons;
-mod names;
 
 pub use comparisons::compare_policies;

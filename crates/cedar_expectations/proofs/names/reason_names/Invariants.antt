@@ -2,8 +2,8 @@ use Rattle.std.proofs.Common.{◌≡◌, ◌++◌, map, string_bytes}
 use Rattle.cedar_layers.specs.Policies.{policy_view}
 use Rattle.cedar_layers.specs.PolicySets.{policies_left, policies_view}
 use Rattle.cedar_authorizer.specs.responses.Responses.{has_id}
-use Rattle.cedar_regression.specs.Named.{called_where}
-use Rattle.cedar_regression.proofs.names.reason_names.Given as goal
+use Rattle.cedar_expectations.specs.Named.{called_where}
+use Rattle.cedar_expectations.proofs.names.reason_names.Given as goal
 
 -- those that are named, and those that are left
 abbrev pub invariant-policies : goal.invariant-policies

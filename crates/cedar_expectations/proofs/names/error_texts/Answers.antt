@@ -3,8 +3,8 @@ use Rattle.std.proofs.Math.Seq.{drop-cons}
 use Rattle.std.proofs.lemmas.List.{drop_all}
 use Rattle.cedar_model.specs.Terms.{Text}
 use Rattle.cedar_layers.specs.PolicySets.{policies_view}
-use Rattle.cedar_regression.specs.Named.{AreErrorTexts}
-use Rattle.cedar_regression.proofs.names.error_texts.Goals as goal
+use Rattle.cedar_expectations.specs.Named.{AreErrorTexts}
+use Rattle.cedar_expectations.proofs.names.error_texts.Goals as goal
 
 pub errors-preserved : goal.errors-preserved
 errors-preserved c = λ ts rest.

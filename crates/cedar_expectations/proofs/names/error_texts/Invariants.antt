@@ -1,8 +1,8 @@
 use Rattle.std.proofs.Common.{List, ◌++◌, drop, map, string_bytes}
 use Rattle.cedar_model.specs.Terms.{Text}
 use Rattle.cedar_layers.specs.PolicySets.{policies_view}
-use Rattle.cedar_regression.specs.Named.{AreErrorTexts}
-use Rattle.cedar_regression.proofs.names.error_texts.Given as goal
+use Rattle.cedar_expectations.specs.Named.{AreErrorTexts}
+use Rattle.cedar_expectations.proofs.names.error_texts.Given as goal
 
 -- what is written is all, once those that are left stand behind it
 abbrev pub invariant-errors : goal.invariant-errors

@@ -1,5 +1,5 @@
 //! How an answer calls policies, and what its errors say.
-ghost use Rattle.std.specs.Prelude.{◌≡◌, ◌++◌, map, IfOk, OnOk, string_bytes};
+ghost use Rattle.std.specs.Prelude.{◌≡◌, ◌++◌, ◌∷◌, [], map, IfOk, OnOk, string_bytes, option_copied};
 ghost use Rattle.cedar_model.specs.Outcomes.{text_eq};
 ghost use Rattle.cedar_errors.specs.Failures.{failure_of};
 ghost use Rattle.cedar_layers.specs.Policies.{policy_view, policy_id_text};
@@ -7,21 +7,20 @@ ghost use Rattle.cedar_layers.specs.PolicySets.{policies_view};
 ghost use Rattle.cedar_authorizer.specs.responses.Responses.{has_id};
 ghost use Rattle.cedar_json_writer.specs.Errors.{Says};
 ghost use Rattle.cedar_expectations.specs.Answers.{answer_view};
-ghost use Rattle.cedar_cli.specs.Named.{policy_name};
-ghost use Rattle.cedar_regression.specs.Named.{called_if, called_where, name_under, IsErrorText, AddsErrorText};
-ghost use Rattle.cedar_regression.specs.Named.{AreErrorTexts, IsAnswerIn};
+ghost use Rattle.cedar_expectations.specs.Named.{annotated, policy_name};
+ghost use Rattle.cedar_expectations.specs.Named.{called_if, called_where, name_under, IsErrorText, AddsErrorText};
+ghost use Rattle.cedar_expectations.specs.Named.{AreErrorTexts, IsAnswerIn};
 
-use cedar_cli::push_name;
-use cedar_expectations::Answer;
-use cedar_policy_core::ast::{Policy, PolicyID, PolicySet};
-use cedar_policy_core::authorizer::{AuthorizationError, Response};
-use cedar_policy_core::evaluator::EvaluationError;
+use crate::answers::Answer;
+use cedar_authorizer::authorizer::{AuthorizationError, Response};
+use cedar_errors::evaluator::err::EvaluationError;
+use cedar_layers::policies::{Policy, PolicyID, PolicySet};
 use std::alloc::{AllocError, Global};
 use std::collections::HashSet;
 
 /// What the response of these policies says: the decision, the names of the policies that determined it, and of each
-/// that erred its name and what its error says.
-pub(crate) fn answer_in(
+/// that erred its name and what its error says. Refuses only if out of memory.
+pub fn answer_in(
     alloc: Global,
     policies: &PolicySet,
     response: &Response,
@@ -88,9 +87,20 @@ fn put_string(text: String, texts: &mut Vec<String>) -> Result<(), AllocError>
 fn name_of(alloc: Global, policy: &Policy) -> Result<String, AllocError>
     ensures { IfOk result (λ s. string_bytes s ≡ policy_name (policy_view policy.now)) }
 {
-    let mut name = String::new(alloc);
-    push_name(alloc, policy, &mut name)?;
-    Ok(name)
+    match annotated_id(policy) {
+        Some(name) => String::from_str(alloc, name),
+        None => id_text(alloc, policy.id()),
+    }
+}
+
+// The policy's annotation `id`, if it has one.
+fn annotated_id(policy: &Policy) -> Option<&str>
+    ensures { option_copied result ≡ annotated (policy_view policy.now) }
+{
+    match policy.annotations_rc().0.get("id") {
+        Some(name) => Some(name.as_str()),
+        None => None,
+    }
 }
 
 // ---- errors

@@ -1,11 +1,11 @@
 use Rattle.std.proofs.Common.{◌≡◌, sym, ap, ◌∙◌, map, string_bytes}
 use Rattle.cedar_layers.specs.Policies.{policy_view, policy_id_text}
 use Rattle.cedar_layers.specs.PolicySets.{policies_left, policies_view}
-use Rattle.cedar_cli.specs.Named.{policy_name}
-use Rattle.cedar_cli.proofs.Composed.{of_ok}
-use Rattle.cedar_regression.specs.Named.{name_under}
-use Rattle.cedar_regression.proofs.Texts.{name_here, name_not_here}
-use Rattle.cedar_regression.proofs.names.name_under.Goals as goal
+use Rattle.cedar_expectations.specs.Named.{policy_name}
+use Rattle.cedar_expectations.proofs.Texts.{of_ok}
+use Rattle.cedar_expectations.specs.Named.{name_under}
+use Rattle.cedar_expectations.proofs.Texts.{name_here, name_not_here}
+use Rattle.cedar_expectations.proofs.names.name_under.Goals as goal
 
 pub returns-then-is_of : goal.returns-then-is_of
 returns-then-is_of c =

@@ -4,8 +4,8 @@ use Rattle.cedar_layers.specs.PolicySets.{policies_left}
 use Rattle.cedar_authorizer.specs.responses.Responses.{has_id}
 use Rattle.cedar_json_writer.proofs.Listed.{no_more}
 use Rattle.cedar_expectations.proofs.Listing.{goes_on}
-use Rattle.cedar_regression.specs.Named.{called_if, called_where}
-use Rattle.cedar_regression.proofs.names.reason_names.Goals as goal
+use Rattle.cedar_expectations.specs.Named.{called_if, called_where}
+use Rattle.cedar_expectations.proofs.names.reason_names.Goals as goal
 
 pub policies-preserved : goal.policies-preserved
 policies-preserved c =

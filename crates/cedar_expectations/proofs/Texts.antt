@@ -1,10 +1,14 @@
 -- The names of policies, one by one.
-use Rattle.std.proofs.Common.{◌≡◌, refl, ap, ◌∙◌, Bool, true, false, cond, List, ◌∷◌}
+use Rattle.std.proofs.Common.{◌≡◌, refl, ap, ◌∙◌, Bool, true, false, cond, List, ◌∷◌, Result, Ok, Err, IfOk}
 use Rattle.cedar_model.specs.Terms.{Text}
 use Rattle.cedar_model.specs.Outcomes.{text_eq}
 use Rattle.cedar_layers.specs.Policies.{PolicyView}
-use Rattle.cedar_cli.specs.Named.{policy_name}
-use Rattle.cedar_regression.specs.Named.{name_under}
+use Rattle.cedar_expectations.specs.Named.{policy_name, name_under}
+
+-- what holds of each answer holds of the one that is given
+pub of_ok : {A E : Type 0} (P Q : A → Type 0) → ((a : A) → P a → Q a) → (r : Result A E) → IfOk r P → IfOk r Q
+of_ok P Q f (Ok a) h = f a h
+of_ok P Q f (Err e) h = tt
 
 cond_true : {A : Type 0} (b : Bool) (x y : A) → b ≡ true → cond b x y ≡ x
 cond_true true x y h = refl

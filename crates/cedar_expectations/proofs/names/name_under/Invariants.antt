@@ -1,8 +1,8 @@
 use Rattle.std.proofs.Common.{◌≡◌, map}
 use Rattle.cedar_layers.specs.Policies.{policy_view, policy_id_text}
 use Rattle.cedar_layers.specs.PolicySets.{policies_left, policies_view}
-use Rattle.cedar_regression.specs.Named.{name_under}
-use Rattle.cedar_regression.proofs.names.name_under.Given as goal
+use Rattle.cedar_expectations.specs.Named.{name_under}
+use Rattle.cedar_expectations.proofs.names.name_under.Given as goal
 
 -- the name is that among the policies that are left
 abbrev pub invariant-policies : goal.invariant-policies

@@ -1,5 +1,6 @@
 -- How an answer calls policies, and what its errors say.
-use Rattle.std.specs.Prelude.{◌≡◌, ◌++◌, Bool, cond, List, [], ◌∷◌, flat_map, map, codes, string_bytes}
+use Rattle.std.specs.Prelude.{◌≡◌, ◌++◌, Bool, cond, List, [], ◌∷◌, flat_map, codes, Option, Some, None}
+use Rattle.std.specs.Map.{lookup}
 use Rattle.cedar_model.specs.Terms.{Text}
 use Rattle.cedar_model.specs.Outcomes.{text_eq}
 use Rattle.cedar_decisions.specs.Decisions.{decision_view}
@@ -9,7 +10,18 @@ use Rattle.cedar_authorizer.specs.declared.responses.err.AuthorizationError.{Aut
 use Rattle.cedar_authorizer.specs.responses.Responses.{has_id, error_view}
 use Rattle.cedar_json_writer.specs.Errors.{Says}
 use Rattle.cedar_expectations.specs.Answers.{AnswerView}
-use Rattle.cedar_cli.specs.Named.{policy_name}
+
+-- what a policy's annotation `id` says, if it has one
+abbrev pub annotated : PolicyView → Option Text
+annotated p = lookup (text_eq (codes "id")) p.annotations
+
+abbrev pub annotation_or_id : Option Text → PolicyView → Text
+annotation_or_id None p = p.id
+annotation_or_id (Some name) p = name
+
+-- how a policy is called: by that annotation or, where it has none, by its id
+abbrev pub policy_name : PolicyView → Text
+policy_name p = annotation_or_id (annotated p) p
 
 -- the name of the policy, where its id is one of these
 abbrev pub called_if : (Text → Bool) → PolicyView → List Text
