@@ -1,3 +1,4 @@
+mod Contexts
 mod Kept
 mod Listed
 mod Named

@@ -6,7 +6,9 @@ use Rattle.cedar_model.specs.Outcomes.{escaped}
 use Rattle.cedar_model.specs.Settings.{printed_entity}
 use Rattle.cedar_model.proofs.Printed.{injective}
 use Rattle.cedar_names.specs.Texts.{variable_text}
-use Rattle.cedar_reasons.specs.Names.{printed_attribute, value_name, tag_name, AreNamedApart, NamesNoTag, NamesNoEntity, NamesNoVariable}
+use Rattle.cedar_reasons.specs.Names.{printed_attribute, value_name, tag_name, context_name, AreNamedApart, NamesNoTag}
+use Rattle.cedar_reasons.specs.Names.{ContextNamesAreApart, NamesNoContextValue, NamesNoEntity, NamesNoVariable}
+use Rattle.cedar_reasons.specs.Names.{ContextNamesNoEntity, ContextNamesNoVariable}
 
 -- an attribute's print and this tell the entity and the name
 apart_by : (suffix : Text) → AreNamedApart (λ n k. printed_attribute n k ++ suffix)
@@ -24,6 +26,13 @@ apart = apart_by (codes "?")
 
 pub tags_apart : AreNamedApart tag_name
 tags_apart = apart_by (codes "#")
+
+pub context_apart : ContextNamesAreApart
+context_apart j k e =
+    let first : EntityName = record { type_name = codes "context"; id = j } in
+    let second : EntityName = record { type_name = codes "context"; id = k } in
+    ap (λ (u : EntityName). u.id)
+    (injective first second (append_cancel_right (printed_entity first) (printed_entity second) (codes "!") e))
 
 -- the last byte of a text, or this
 end_of : ℕ → Text → ℕ
@@ -82,3 +91,32 @@ tags_no_variable n k principal same = let ends : 35 ≡ 108 = other_tag_end n k 
 tags_no_variable n k action same = let ends : 35 ≡ 110 = other_tag_end n k (codes "action") same in omega (arith, ends)
 tags_no_variable n k resource same = let ends : 35 ≡ 101 = other_tag_end n k (codes "resource") same in omega (arith, ends)
 tags_no_variable n k context same = let ends : 35 ≡ 116 = other_tag_end n k (codes "context") same in omega (arith, ends)
+
+context_end : (k : Text) → end_of 0 (context_name k) ≡ 33
+unfolding end_of
+context_end k = end_further 0 (printed_entity record { type_name = codes "context"; id = k }) 33 []
+
+pub no_context : NamesNoContextValue value_name
+no_context n j k same =
+    let ends : 63 ≡ 33 = sym (value_end n j) ∙ ap (end_of 0) same ∙ context_end k in
+    omega (arith, ends)
+
+pub tags_no_context : NamesNoContextValue tag_name
+tags_no_context n j k same =
+    let ends : 35 ≡ 33 = sym (tag_end n j) ∙ ap (end_of 0) same ∙ context_end k in
+    omega (arith, ends)
+
+pub context_no_entity : ContextNamesNoEntity
+context_no_entity e k same =
+    let ends : 33 ≡ 34 = sym (context_end k) ∙ ap (end_of 0) same ∙ entity_end e in
+    omega (arith, ends)
+
+other_context_end : (k t : Text) → context_name k ≡ t → 33 ≡ end_of 0 t
+other_context_end k t same = sym (context_end k) ∙ ap (end_of 0) same
+
+pub context_no_variable : ContextNamesNoVariable
+unfolding end_of
+context_no_variable k principal same = let ends : 33 ≡ 108 = other_context_end k (codes "principal") same in omega (arith, ends)
+context_no_variable k action same = let ends : 33 ≡ 110 = other_context_end k (codes "action") same in omega (arith, ends)
+context_no_variable k resource same = let ends : 33 ≡ 101 = other_context_end k (codes "resource") same in omega (arith, ends)
+context_no_variable k context same = let ends : 33 ≡ 116 = other_context_end k (codes "context") same in omega (arith, ends)

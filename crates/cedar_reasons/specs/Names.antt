@@ -16,6 +16,11 @@ value_name n k = printed_attribute n k ++ codes "?"
 abbrev pub tag_name : EntityName → Text → Text
 tag_name n k = printed_attribute n k ++ codes "#"
 
+-- the name of the unknown that stands for a value of the context: it, two colons, and the name in quotes, and an
+-- exclamation mark
+abbrev pub context_name : Text → Text
+context_name k = printed_entity record { type_name = codes "context"; id = k } ++ codes "!"
+
 -- no two attributes have one unknown, nor two tags
 abbrev pub AreNamedApart : (EntityName → Text → Text) → Type 0
 AreNamedApart name = (m n : EntityName) (j k : Text) → name m j ≡ name n k → (m ≡ n) × (j ≡ k)
@@ -24,6 +29,13 @@ AreNamedApart name = (m n : EntityName) (j k : Text) → name m j ≡ name n k �
 abbrev pub NamesNoTag : Type 0
 NamesNoTag = (m n : EntityName) (j k : Text) → value_name m j ≢ tag_name n k
 
+-- nor two values of the context, nor one of these and an attribute or a tag
+abbrev pub ContextNamesAreApart : Type 0
+ContextNamesAreApart = (j k : Text) → context_name j ≡ context_name k → j ≡ k
+
+abbrev pub NamesNoContextValue : (EntityName → Text → Text) → Type 0
+NamesNoContextValue name = (n : EntityName) (j k : Text) → name n j ≢ context_name k
+
 -- none is the unknown of an entity that a store lacks
 abbrev pub NamesNoEntity : (EntityName → Text → Text) → Type 0
 NamesNoEntity name = (n e : EntityName) (k : Text) → name n k ≢ printed_entity e
@@ -31,3 +43,10 @@ NamesNoEntity name = (n e : EntityName) (k : Text) → name n k ≢ printed_enti
 -- none is the unknown of an entry of the request, or of its context
 abbrev pub NamesNoVariable : (EntityName → Text → Text) → Type 0
 NamesNoVariable name = (n : EntityName) (k : Text) (v : Variable) → name n k ≢ variable_text v
+
+-- nor is that of a value of the context
+abbrev pub ContextNamesNoEntity : Type 0
+ContextNamesNoEntity = (e : EntityName) (k : Text) → context_name k ≢ printed_entity e
+
+abbrev pub ContextNamesNoVariable : Type 0
+ContextNamesNoVariable = (k : Text) (v : Variable) → context_name k ≢ variable_text v

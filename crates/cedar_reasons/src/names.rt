@@ -4,8 +4,9 @@ ghost use Rattle.std.specs.Rc.{rc_str_bytes};
 ghost use Rattle.cedar_model.specs.Terms.{unknown};
 ghost use Rattle.cedar_model.specs.Failures.{residual};
 ghost use Rattle.cedar_names.specs.Names.{uid_name};
+ghost use Rattle.cedar_expressions.specs.View.{view};
 ghost use Rattle.cedar_values.specs.Residuals.{partial_view};
-ghost use Rattle.cedar_reasons.specs.Names.{printed_attribute, value_name, tag_name};
+ghost use Rattle.cedar_reasons.specs.Names.{printed_attribute, value_name, tag_name, context_name};
 
 use cedar_layers::expressions::{EntityUID, Expr, PartialValue, ResidualExpr, Unknown};
 use std::alloc::{AllocError, Global};
@@ -35,6 +36,14 @@ pub(crate) fn unknown_tag(
     Ok(unknown_value(tag_name(alloc, uid, name)?))
 }
 
+// That of the context's attribute of this name.
+pub(crate) fn unknown_context_value(alloc: Global, name: &RcStr) -> Result<Expr, AllocError>
+    ensures { IfOk result (λ e. view e ≡ unknown (context_name (rc_str_bytes name.now)) None) }
+{
+    let unknown = Unknown::new_untyped(context_name(alloc, name)?);
+    Ok(Expr::unknown(unknown))
+}
+
 // The unknown of this name.
 fn unknown_value(name: RcStr) -> PartialValue
     ensures { partial_view result ≡ residual (unknown (rc_str_bytes name) None) }
@@ -59,6 +68,16 @@ pub fn tag_name(alloc: Global, uid: &EntityUID, name: &RcStr) -> Result<RcStr, A
 {
     let mut text = attribute_text(alloc, uid, name)?;
     text.push_str("#")?;
+    Ok(RcStr::from_string(text)?)
+}
+
+/// The name of the unknown that stands for the value of the context's attribute of this name, where it is left out: as
+/// the entity of this id whose type is `context` prints, and an exclamation mark. Refuses only if out of memory.
+pub fn context_name(alloc: Global, name: &RcStr) -> Result<RcStr, AllocError>
+    ensures { IfOk result (λ t. rc_str_bytes t ≡ context_name (rc_str_bytes name.now)) }
+{
+    let mut text = EntityUID::of(alloc, "context", name.as_str())?.to_string(alloc)?;
+    text.push_str("!")?;
     Ok(RcStr::from_string(text)?)
 }
 
