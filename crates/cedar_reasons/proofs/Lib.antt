@@ -1,5 +1,5 @@
-mod Contexts
 mod Kept
+mod KeptNames
 mod Listed
 mod Named
 mod Parts

@@ -1,11 +1,10 @@
 -- The names of unknowns that stand for values are apart.
-use Rattle.std.proofs.Common.{◌≡◌, ◌≢◌, ℕ, List, [], ◌∷◌, ◌++◌, refl, sym, ap, ◌∙◌, codes, arith}
+use Rattle.std.proofs.Common.{◌≡◌, ℕ, [], ◌∷◌, ◌++◌, refl, sym, ap, ◌∙◌, codes, arith}
 use Rattle.std.proofs.lemmas.List.{append_cancel_right}
-use Rattle.cedar_model.specs.Terms.{Text, EntityName, Variable, principal, action, resource, context}
+use Rattle.cedar_model.specs.Terms.{Text, EntityName, principal, action, resource, context}
 use Rattle.cedar_model.specs.Outcomes.{escaped}
 use Rattle.cedar_model.specs.Settings.{printed_entity}
 use Rattle.cedar_model.proofs.Printed.{injective}
-use Rattle.cedar_names.specs.Texts.{variable_text}
 use Rattle.cedar_reasons.specs.Names.{printed_attribute, value_name, tag_name, context_name, AreNamedApart, NamesNoTag}
 use Rattle.cedar_reasons.specs.Names.{ContextNamesAreApart, NamesNoContextValue, NamesNoEntity, NamesNoVariable}
 use Rattle.cedar_reasons.specs.Names.{ContextNamesNoEntity, ContextNamesNoVariable}

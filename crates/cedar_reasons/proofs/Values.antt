@@ -1,5 +1,5 @@
 -- A value that is kept, or its unknown.
-use Rattle.std.proofs.Common.{◌≡◌, Bool, true, false, List, Option, None, Some, refl, sym, ap, ◌∙◌}
+use Rattle.std.proofs.Common.{◌≡◌, Bool, true, false, List, Option, Some, sym, ap, ◌∙◌}
 use Rattle.cedar_model.specs.Terms.{Text, EntityName}
 use Rattle.cedar_model.specs.Failures.{PartialValue}
 use Rattle.cedar_reasons.specs.Facts.{KnownFact, of_attribute, of_tag, is_kept}

@@ -1,5 +1,4 @@
 -- The values, or the expressions, of a context as they are lent.
-use Rattle.std.specs.declared.alloc.Global.{Global}
 use Rattle.cedar_model.specs.Settings.{ContextPart, known_context, residual_context}
 use Rattle.cedar_expressions.specs.View.{fields_view}
 use Rattle.cedar_values.specs.Sound.{whats_at}

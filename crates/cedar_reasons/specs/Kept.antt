@@ -2,7 +2,7 @@
 use Rattle.std.specs.Prelude.{Bool, true, false, if◌then◌else◌, List, [], ◌∷◌, Option, Some, None}
 use Rattle.std.specs.Cmp.Lexicographic.{slice_cmp}
 use Rattle.std.specs.Ordering.{nat_cmp, match_ordering}
-use Rattle.cedar_model.specs.Terms.{Text, EntityName, unknown}
+use Rattle.cedar_model.specs.Terms.{Text, unknown}
 use Rattle.cedar_model.specs.Failures.{PartialValue, residual}
 use Rattle.cedar_layers.specs.declared.policies.entities.Entity.{Entity}
 use Rattle.cedar_layers.specs.Stores.{entity_name, entity_view, Held, with_entity}

@@ -1,5 +1,5 @@
 -- A request and a store of which these facts alone are kept.
-use Rattle.std.specs.Prelude.{Bool, true, false, cond, if◌then◌else◌, not, ◌&&◌, List, map, Option, Some, None, option_map}
+use Rattle.std.specs.Prelude.{Bool, true, false, if◌then◌else◌, not, ◌&&◌, List, map, Option, Some, None, option_map}
 use Rattle.std.specs.List.{list_all}
 use denote.Ref.{Bor}
 use Rattle.cedar_model.specs.Terms.{Text, EntityName, Term, unknown, Fields, no_fields, one_field}

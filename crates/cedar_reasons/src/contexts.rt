@@ -1,5 +1,5 @@
 //! Contexts of which these facts alone are kept.
-ghost use Rattle.std.specs.Prelude.{◌≡◌, true, length, map, IfOk, OnOk};
+ghost use Rattle.std.specs.Prelude.{◌≡◌, ◌++◌, true, length, map, IfOk, OnOk};
 ghost use Rattle.std.specs.List.Sorted.{IsStrictlySortedBy};
 ghost use Rattle.std.specs.Rc.{rc_str_bytes};
 ghost use Rattle.cedar_model.specs.Shapes.{are_restricted_at};
@@ -31,7 +31,7 @@ enum Held<'x> {
     Residual(&'x BTreeMap<RcStr, Expr>),
 }
 
-fn held(context: &Context) -> Held<'_>
+fn pairs_of(context: &Context) -> Held<'_>
     ensures view { held_view result ≡ context_view context.now }
     ensures restricted { are_restricted_at (context_terms (held_view result)) ≡ true }
 {
@@ -53,20 +53,26 @@ pub(crate) fn add_context<'x>(
         ++ context_facts (context_view context.now)) }
 {
     add_last(facts, Fact::Context)?;
-    match held(context) {
-        Held::Values(values) => add_names(facts, values),
-        Held::Residual(pairs) => add_names(facts, pairs),
+    match pairs_of(context) {
+        Held::Values(values) => {
+            add_names(facts, values)?;
+            Ok(())
+        }
+        Held::Residual(pairs) => {
+            add_names(facts, pairs)?;
+            Ok(())
+        }
     }
 }
 
 fn add_names<'x, V: Drop>(
     facts: &mut Vec<Fact<'x>>,
-    map: &'x BTreeMap<RcStr, V>,
+    pairs: &'x BTreeMap<RcStr, V>,
 ) -> Result<(), AllocError>
     ensures { OnOk result (facts_view facts.new.items ≡ facts_view facts.old.items
-        ++ map of_context_value (names_under map.now.entries)) }
+        ++ map of_context_value (names_under pairs.now.entries)) }
 {
-    'names: for name in map.keys() {
+    'names: for (name, _) in pairs.iter() {
         add_last(facts, Fact::ContextValue(name))?;
     }
     Ok(())
@@ -81,7 +87,7 @@ pub(crate) fn reduced_context(
     ensures { IfOk result (λ c. context_view c ≡
         reduced_context (facts_view facts.now) (context_view context.now)) }
 {
-    let lent = held(context);
+    let lent = pairs_of(context);
     if keeps_values(lent, facts) {
         Ok(context.clone()?)
     } else {
@@ -102,9 +108,12 @@ fn keeps_values(lent: Held<'_>, facts: &[Fact<'_>]) -> bool
 fn keeps_names<V: Drop>(pairs: &BTreeMap<RcStr, V>, facts: &[Fact<'_>]) -> bool
     ensures { result ≡ keeps_names (facts_view facts.now) (names_under pairs.now.entries) }
 {
-    pairs
-        .keys()
-        .all(|name| is_kept(facts, Fact::ContextValue(name)))
+    'names: for (name, _) in pairs.iter() {
+        if !is_kept(facts, Fact::ContextValue(name)) {
+            return false;
+        }
+    }
+    true
 }
 
 // The expressions of the values that are kept, and the unknowns of the others.
@@ -131,7 +140,7 @@ fn reduced_values(
         reduced_fields (facts_view facts.now) (expressions_at (whats_at values.now.entries))) }
 {
     let (keys, parts) = value_parts(alloc, values, facts)?;
-    map_under(alloc, keys, parts)
+    Ok(map_under(alloc, keys, parts)?)
 }
 
 // The names, and what stands under them, both in the order of names.
@@ -180,7 +189,7 @@ fn reduced_exprs(
         reduced_fields (facts_view facts.now) (fields_view pairs.now.entries)) }
 {
     let (keys, parts) = expr_parts(alloc, pairs, facts)?;
-    map_under(alloc, keys, parts)
+    Ok(map_under(alloc, keys, parts)?)
 }
 
 fn expr_parts(

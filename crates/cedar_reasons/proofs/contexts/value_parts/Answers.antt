@@ -1,12 +1,11 @@
 use Rattle.std.proofs.Common.{◌++◌, ◌+◌, ap, sym, ◌∙◌, length, map}
 use Rattle.std.proofs.lemmas.List.{append-nil, length_push}
-use Rattle.std.specs.Rc.{rc_str_bytes}
 use Rattle.cedar_expressions.specs.View.{view}
 use Rattle.cedar_restricted.specs.Keys.{texts_of}
 use Rattle.cedar_restricted.proofs.Collected.{names_under, name_added, keys_in_order}
 use Rattle.cedar_requests.proofs.ByParts.{one_more}
 use Rattle.cedar_reasons.specs.Facts.{facts_view}
-use Rattle.cedar_reasons.proofs.Contexts.{value_terms, fields_of_values}
+use Rattle.cedar_reasons.proofs.KeptNames.{value_terms, fields_of_values}
 use Rattle.cedar_reasons.proofs.contexts.value_parts.Goals as goal
 
 pub values-preserved : goal.values-preserved

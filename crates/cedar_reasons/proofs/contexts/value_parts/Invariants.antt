@@ -3,7 +3,7 @@ use Rattle.cedar_expressions.specs.View.{view}
 use Rattle.cedar_restricted.specs.Keys.{texts_of}
 use Rattle.cedar_restricted.proofs.Collected.{names_under}
 use Rattle.cedar_reasons.specs.Facts.{facts_view}
-use Rattle.cedar_reasons.proofs.Contexts.{value_terms}
+use Rattle.cedar_reasons.proofs.KeptNames.{value_terms}
 use Rattle.cedar_reasons.proofs.contexts.value_parts.Given as goal
 
 abbrev pub invariant-values : goal.invariant-values

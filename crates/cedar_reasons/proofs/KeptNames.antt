@@ -1,6 +1,5 @@
 -- A context of which some values are kept.
-use Rattle.std.proofs.Common.{◌≡◌, Bool, true, false, ◌&&◌, ◌||◌, if◌then◌else◌, List, [], ◌∷◌, map, Option, None, Some, Global, refl, sym, ap, ◌∙◌}
-use Rattle.std.specs.List.{list_all}
+use Rattle.std.proofs.Common.{◌≡◌, Bool, true, false, ◌&&◌, ◌||◌, if◌then◌else◌, List, [], ◌∷◌, map, None, Some, Global, refl, sym, ap, ◌∙◌}
 use Rattle.std.specs.Rc.{rc_str_bytes}
 use Rattle.std.specs.declared.rc.RcStr.{RcStr}
 use Rattle.cedar_model.specs.Terms.{Text, Term, unknown, Fields, no_fields, one_field, terms_of}
@@ -14,10 +13,9 @@ use Rattle.cedar_values.specs.Sound.{Placed, whats_at}
 use Rattle.cedar_restricted.specs.Keys.{texts_of, fields_named}
 use Rattle.cedar_restricted.proofs.Collected.{names_under}
 use Rattle.cedar_restricted.proofs.MadeParts.{value_restricted}
-use Rattle.cedar_requests.specs.declared.context.Context.{Context}
 use Rattle.cedar_requests.specs.declared.context.pairs.ContextPairs.{ContextPairs}
 use Rattle.cedar_requests.specs.declared.context.pairs.ContextPairs.TheVariants as kinds
-use Rattle.cedar_requests.specs.Contexts.{ValueMap, ExprMap, context_view, context_keys, context_values, context_residual}
+use Rattle.cedar_requests.specs.Contexts.{ValueMap, ExprMap, context_keys}
 use Rattle.cedar_requests.specs.Contexts.{context_pairs_view, pairs_values, pairs_residual}
 use Rattle.cedar_reasons.specs.Facts.{KnownFact, of_context_value, is_kept}
 use Rattle.cedar_reasons.specs.Names.{context_name}
@@ -49,6 +47,15 @@ pub expr_names : (es : List (RcStr Global × Expr)) → field_names (fields_view
 unfolding field_names
 expr_names [] = refl
 expr_names (e ∷ es) = ap (λ (ks : List Text). rc_str_bytes e.0 ∷ ks) (expr_names es)
+
+-- the next value is kept, and the others decide; or it is not
+pub next_kept : (fs : List KnownFact) (k : Text) (ks : List Text) (all : Bool) → is_kept fs (of_context_value k) ≡ true
+    → keeps_names fs (k ∷ ks) ≡ all → keeps_names fs ks ≡ all
+next_kept fs k ks all h e = sym (ap (λ (b : Bool). b && keeps_names fs ks) h) ∙ e
+
+pub next_left_out : (fs : List KnownFact) (k : Text) (ks : List Text) (all : Bool) → is_kept fs (of_context_value k) ≡ false
+    → keeps_names fs (k ∷ ks) ≡ all → false ≡ all
+next_left_out fs k ks all h e = sym (ap (λ (b : Bool). b && keeps_names fs ks) h) ∙ e
 
 -- ---- restricted expressions
 
