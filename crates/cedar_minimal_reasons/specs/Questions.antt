@@ -10,7 +10,7 @@ use Rattle.cedar_model.specs.Reports.{given_decision}
 use Rattle.cedar_model.specs.Responses.{FitPolicies}
 use Rattle.cedar_layers.specs.declared.policies.entities.Entity.{Entity}
 use Rattle.cedar_requests.specs.Requests.{request_view}
-use Rattle.cedar_reasons.specs.Facts.{KnownFact, lent}
+use Rattle.cedar_reasons.specs.Facts.{KnownFact, lent, every_fact}
 use Rattle.cedar_reasons.specs.Reduced.{reduced_request, reduced_store}
 use Rattle.cedar_authorizer.specs.declared.authorizer.Authorizer.{Authorizer}
 use Rattle.cedar_authorizer.specs.declared.responses.partial_response.PartialResponse.{PartialResponse}
@@ -34,6 +34,10 @@ question a c = record {
   entities = lent c.entities.now;
   policies = considered c.policies.now;
 }
+
+-- all that is known of what is asked
+abbrev pub all_of : Question → List KnownFact
+all_of q = every_fact q.request.context_part q.entities
 
 -- what is asked where these facts alone are kept
 abbrev pub asked_with : Question → List KnownFact → Setting

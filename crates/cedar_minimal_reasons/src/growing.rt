@@ -1,14 +1,14 @@
 //! The facts that a decision asks for: at first those of the request, and then those whose unknowns are left.
 ghost use Rattle.std.specs.Prelude.{◌≡◌, None, Some, IfNone, IfOk, IfSome};
 ghost use Rattle.cedar_decisions.specs.Decisions.{decision_view};
-ghost use Rattle.cedar_reasons.specs.Facts.{facts_view, every_fact, lent};
-ghost use Rattle.cedar_minimal_reasons.specs.Questions.{question, Answers};
+ghost use Rattle.cedar_reasons.specs.Facts.{facts_view};
+ghost use Rattle.cedar_minimal_reasons.specs.Questions.{question, all_of, Answers};
 
 use crate::cases::{Case, decided_by, response_by, settled};
 use cedar_authorizer::authorizer::{Authorizer, Decision, PartialResponse};
 use cedar_fallible::{add_last, pair_of};
 use cedar_layers::expressions::{EntityUID, Unknown};
-use cedar_reasons::{Fact, all_facts, is_kept, value_name};
+use cedar_reasons::{Fact, all_facts, context_name, is_kept, tag_name, value_name};
 use cedar_unknowns::Unknowns;
 use std::alloc::{AllocError, Global};
 use std::collections::BTreeSet;
@@ -23,9 +23,9 @@ pub(crate) fn grown<'x>(
     ensures given { IfOk result (λ o. IfSome o (λ p.
         Answers (question authorizer.now case.now) (facts_view p.1.items) (Some (decision_view p.0)))) }
     ensures undecided { IfOk result (λ o. IfNone o
-        (Answers (question authorizer.now case.now) (every_fact (lent case.now.entities.now)) None)) }
+        (Answers (question authorizer.now case.now) (all_of (question authorizer.now case.now)) None)) }
 {
-    let all = all_facts(alloc, case.entities)?;
+    let all = all_facts(alloc, case.request, case.entities)?;
     match grown_among(alloc, authorizer, case, &all)? {
         Some(found) => Ok(Some(found)),
         None => by_all(alloc, authorizer, case, all),
@@ -125,9 +125,20 @@ fn is_asked(
         Fact::Action => Ok(false),
         Fact::Resource => Ok(false),
         Fact::Context => Ok(false),
+        Fact::ContextValue(name) => {
+            let is_given = is_kept(facts, Fact::Context);
+            Ok(is_given && is_among_names(names, context_name(alloc, name)?))
+        }
         Fact::NoOtherEntity => Ok(false),
         Fact::Entity(uid) => Ok(is_among(entities, uid)),
-        Fact::Attribute(uid, name) => is_value_asked(alloc, facts, uid, name, names),
+        Fact::Attribute(uid, name) => {
+            let is_stored = is_kept(facts, Fact::Entity(uid));
+            Ok(is_stored && is_among_names(names, value_name(alloc, uid, name)?))
+        }
+        Fact::Tag(uid, name) => {
+            let is_stored = is_kept(facts, Fact::Entity(uid));
+            Ok(is_stored && is_among_names(names, tag_name(alloc, uid, name)?))
+        }
     }
 }
 
@@ -135,18 +146,6 @@ fn is_among(entities: &[EntityUID], uid: &EntityUID) -> bool {
     entities.iter().any(|entity| entity == uid)
 }
 
-// Whether the unknown of the attribute's value is among these. It can be so only where the entity is kept.
-fn is_value_asked(
-    alloc: Global,
-    facts: &[Fact<'_>],
-    uid: &EntityUID,
-    name: &RcStr,
-    names: &BTreeSet<RcStr>,
-) -> Result<bool, AllocError> {
-    if is_kept(facts, Fact::Entity(uid)) {
-        let asked = value_name(alloc, uid, name)?;
-        Ok(names.contains(asked.as_str()))
-    } else {
-        Ok(false)
-    }
+fn is_among_names(names: &BTreeSet<RcStr>, name: RcStr) -> bool {
+    names.contains(name.as_str())
 }

@@ -1,8 +1,7 @@
 //! Reasons: facts which alone give a decision.
 ghost use Rattle.std.specs.Prelude.{◌≡◌, true, None, IfNone, IfOk, IfSome};
 ghost use Rattle.cedar_decisions.specs.Decisions.{decision_view};
-ghost use Rattle.cedar_reasons.specs.Facts.{facts_view, every_fact, lent};
-ghost use Rattle.cedar_minimal_reasons.specs.Questions.{question, Answers, Decides};
+ghost use Rattle.cedar_minimal_reasons.specs.Questions.{question, all_of, Answers, Decides};
 ghost use Rattle.cedar_minimal_reasons.specs.Reasons.{IsGiven, IsMinimal, facts_of};
 
 use crate::cases::Case;
@@ -38,7 +37,7 @@ impl<'x> Case<'x> {
         calls: usize,
     ) -> Result<Option<Reason<'x>>, AllocError>
         ensures undecided { IfOk result (λ o. IfNone o
-            (Answers (question authorizer.now self.now) (every_fact (lent self.now.entities.now)) None)) }
+            (Answers (question authorizer.now self.now) (all_of (question authorizer.now self.now)) None)) }
         ensures given { IfOk result (λ o. IfSome o (IsGiven (question authorizer.now self.now))) }
         ensures decides { IfOk result (λ o. IfSome o (λ r.
             Decides (question authorizer.now self.now) (facts_of r) (decision_view r.decision))) }

@@ -1,4 +1,5 @@
 mod Kept
+mod KeptNames
 mod Listed
 mod Named
 mod Parts

@@ -1,12 +1,14 @@
 -- Lists that are made one after another.
-use Rattle.std.proofs.Common.{◌≡◌, Bool, ◌||◌, ◌&&◌, List, [], ◌∷◌, ◌++◌, map, refl, sym, ap, ◌∙◌, append_assoc, drop}
+use Rattle.std.proofs.Common.{◌≡◌, Bool, ◌||◌, ◌&&◌, List, [], ◌∷◌, ◌++◌, map, refl, sym, ap, ◌∙◌, append_assoc}
 use Rattle.std.proofs.lemmas.List.{map-append}
 use Rattle.std.specs.List.{AllZip, list_any, list_all}
-use Rattle.cedar_model.specs.Terms.{EntityName}
+use Rattle.cedar_model.specs.Terms.{Text}
+use Rattle.cedar_model.specs.Settings.{ContextPart}
 use Rattle.cedar_names.specs.declared.names.EntityUID.{EntityUID}
 use Rattle.cedar_names.specs.Names.{uid_name}
+use Rattle.cedar_requests.specs.Contexts.{context_keys}
 use Rattle.cedar_reasons.specs.declared.facts.Fact.{Fact}
-use Rattle.cedar_reasons.specs.Facts.{KnownFact, fact_view, facts_view}
+use Rattle.cedar_reasons.specs.Facts.{KnownFact, fact_view, facts_view, of_context, of_context_value, context_facts}
 
 pub append_nil : {A : Type 0} (xs : List A) → xs ++ [] ≡ xs
 append_nil [] = refl
@@ -44,3 +46,10 @@ names_copied Copies (u ∷ us) (v ∷ vs) h same = λ i. same u v h.0 i ∷ name
 pub fact_more : (xs ys : List Fact) (x : Fact) (f : KnownFact) → ys ≡ xs ++ x ∷ [] → fact_view x ≡ f → facts_view ys ≡ facts_view xs ++ f ∷ []
 fact_more xs ys x f is same =
     ap facts_view is ∙ map-append fact_view xs (x ∷ []) ∙ ap (λ (g : KnownFact). facts_view xs ++ g ∷ []) same
+
+-- those of a context behind others
+pub context_added : (before added after : List KnownFact) (ks : List Text) (p : ContextPart) → added ≡ before ++ of_context ∷ []
+    → after ≡ added ++ map of_context_value ks → context_keys p ≡ ks → after ≡ before ++ context_facts p
+context_added before added after ks p a b k =
+    b ∙ ap (λ fs. fs ++ map of_context_value ks) a ∙ append_assoc before (of_context ∷ []) (map of_context_value ks)
+    ∙ ap (λ js. before ++ (of_context ∷ map of_context_value js)) (sym k)

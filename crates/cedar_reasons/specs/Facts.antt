@@ -5,32 +5,38 @@ use Rattle.std.specs.Rc.{rc_str_bytes}
 use denote.Ref.{Bor}
 use Rattle.cedar_model.specs.Terms.{Text, EntityName}
 use Rattle.cedar_model.specs.Outcomes.{text_eq, entity_eq}
-use Rattle.cedar_model.specs.Settings.{names_of}
+use Rattle.cedar_model.specs.Settings.{ContextPart, names_of}
 use Rattle.cedar_names.specs.Names.{uid_name}
 use Rattle.cedar_layers.specs.declared.policies.entities.Entity.{Entity}
 use Rattle.cedar_layers.specs.Stores.{entity_name, entity_view}
+use Rattle.cedar_requests.specs.Contexts.{context_keys}
 use Rattle.cedar_reasons.specs.declared.facts.Fact.{Fact}
 use Rattle.cedar_reasons.specs.declared.facts.Fact.TheVariants as facts
 
--- who asks, to do what, with what, in which context; that there is no entity but the store's; that an entity is as it
--- is stored, but for the values of its attributes; the value of one of its attributes
+-- who asks, to do what, with what; that the context is as it is, but for its values, and one of these; that there is
+-- no entity but the store's; that an entity is as it is stored, but for the values of its attributes and tags, and one
+-- of these
 pub data KnownFact : Type 0 where
   of_principal : KnownFact
   of_action : KnownFact
   of_resource : KnownFact
   of_context : KnownFact
+  of_context_value : Text → KnownFact
   of_absence : KnownFact
   of_entity : EntityName → KnownFact
   of_attribute : EntityName → Text → KnownFact
+  of_tag : EntityName → Text → KnownFact
 
 abbrev pub fact_view : Fact → KnownFact
 fact_view facts.Principal = of_principal
 fact_view facts.Action = of_action
 fact_view facts.Resource = of_resource
 fact_view facts.Context = of_context
+fact_view (facts.ContextValue k) = of_context_value (rc_str_bytes k.now)
 fact_view facts.NoOtherEntity = of_absence
 fact_view (facts.Entity u) = of_entity (uid_name u.now)
 fact_view (facts.Attribute u k) = of_attribute (uid_name u.now) (rc_str_bytes k.now)
+fact_view (facts.Tag u k) = of_tag (uid_name u.now) (rc_str_bytes k.now)
 
 abbrev pub facts_view : List Fact → List KnownFact
 facts_view fs = map fact_view fs
@@ -53,6 +59,10 @@ abbrev pub is_context : KnownFact → Bool
 is_context of_context = true
 is_context other = false
 
+abbrev pub is_context_value : Text → KnownFact → Bool
+is_context_value k (of_context_value j) = text_eq k j
+is_context_value k other = false
+
 abbrev pub is_absence : KnownFact → Bool
 is_absence of_absence = true
 is_absence other = false
@@ -65,15 +75,21 @@ abbrev pub is_attribute : EntityName → Text → KnownFact → Bool
 is_attribute n k (of_attribute m j) = entity_eq n m && text_eq k j
 is_attribute n k other = false
 
+abbrev pub is_tag : EntityName → Text → KnownFact → Bool
+is_tag n k (of_tag m j) = entity_eq n m && text_eq k j
+is_tag n k other = false
+
 -- that two facts are one
 abbrev pub is_same : KnownFact → KnownFact → Bool
 is_same of_principal f = is_principal f
 is_same of_action f = is_action f
 is_same of_resource f = is_resource f
 is_same of_context f = is_context f
+is_same (of_context_value k) f = is_context_value k f
 is_same of_absence f = is_absence f
 is_same (of_entity n) f = is_entity n f
 is_same (of_attribute n k) f = is_attribute n k f
+is_same (of_tag n k) f = is_tag n k f
 
 -- whether the fact is among these
 abbrev pub is_kept : List KnownFact → KnownFact → Bool
@@ -89,18 +105,28 @@ is_one_of f fs = list_any (λ x. is_same f (fact_view x)) fs
 abbrev pub lent : List (Bor Entity) → List Entity
 lent es = map (λ e. e.now) es
 
--- of an entity: that it is as it is stored, and each attribute's value
+-- of an entity: that it is as it is stored, and each attribute's and each tag's value
+abbrev pub attribute_facts : Entity → List KnownFact
+attribute_facts e = map (of_attribute (entity_name e)) (names_of (entity_view e).attributes)
+
+abbrev pub tag_facts : Entity → List KnownFact
+tag_facts e = map (of_tag (entity_name e)) (names_of (entity_view e).tags)
+
 abbrev pub facts_of_entity : Entity → List KnownFact
-facts_of_entity e = of_entity (entity_name e) ∷ map (of_attribute (entity_name e)) (names_of (entity_view e).attributes)
+facts_of_entity e = of_entity (entity_name e) ∷ (attribute_facts e ++ tag_facts e)
 
 abbrev pub facts_of_each : List Entity → List KnownFact
 facts_of_each [] = []
 facts_of_each (e ∷ es) = facts_of_entity e ++ facts_of_each es
 
--- those of the request, and that there is no other entity
-abbrev pub no_entity_facts : List KnownFact
-no_entity_facts = of_principal ∷ of_action ∷ of_resource ∷ of_context ∷ of_absence ∷ []
+-- those of the context: that it is as it is, and each value
+abbrev pub context_facts : ContextPart → List KnownFact
+context_facts c = of_context ∷ map of_context_value (context_keys c)
 
--- of a request over a store of these entities and no others
-abbrev pub every_fact : List Entity → List KnownFact
-every_fact es = no_entity_facts ++ facts_of_each es
+-- those of the request, and that there is no other entity
+abbrev pub no_entity_facts : ContextPart → List KnownFact
+no_entity_facts c = of_principal ∷ of_action ∷ of_resource ∷ of_absence ∷ context_facts c
+
+-- of a request with this context over a store of these entities and no others
+abbrev pub every_fact : ContextPart → List Entity → List KnownFact
+every_fact c es = no_entity_facts c ++ facts_of_each es

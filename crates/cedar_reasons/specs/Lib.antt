@@ -1,4 +1,5 @@
 pub mod Facts
+pub mod Held
 pub mod Kept
 pub mod Names
 pub mod Reduced

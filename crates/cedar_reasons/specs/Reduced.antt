@@ -1,16 +1,19 @@
 -- A request and a store of which these facts alone are kept.
-use Rattle.std.specs.Prelude.{Bool, true, false, cond, not, ◌&&◌, List, map, Option, Some, None, option_map}
+use Rattle.std.specs.Prelude.{Bool, true, false, if◌then◌else◌, not, ◌&&◌, List, map, Option, Some, None, option_map}
 use Rattle.std.specs.List.{list_all}
 use denote.Ref.{Bor}
-use Rattle.cedar_model.specs.Terms.{Text, EntityName, unknown}
+use Rattle.cedar_model.specs.Terms.{Text, EntityName, Term, unknown, Fields, no_fields, one_field}
+use Rattle.cedar_model.specs.Values.{expressions_at}
 use Rattle.cedar_model.specs.Failures.{PartialValue, residual}
-use Rattle.cedar_model.specs.Settings.{Entry, known_entry, unknown_entry, ContextPart, absent_context, RequestPart}
+use Rattle.cedar_model.specs.Settings.{Entry, known_entry, unknown_entry, RequestPart}
+use Rattle.cedar_model.specs.Settings.{ContextPart, absent_context, known_context, residual_context}
 use Rattle.cedar_model.specs.Settings.{StoredEntity, Store}
 use Rattle.cedar_layers.specs.declared.policies.entities.Entity.{Entity}
 use Rattle.cedar_layers.specs.Stores.{entity_name, store_of}
+use Rattle.cedar_requests.specs.Contexts.{context_keys}
 use Rattle.cedar_reasons.specs.Facts.{KnownFact, of_principal, of_action, of_resource, of_context, of_absence}
-use Rattle.cedar_reasons.specs.Facts.{of_entity, of_attribute, is_kept}
-use Rattle.cedar_reasons.specs.Names.{value_name}
+use Rattle.cedar_reasons.specs.Facts.{of_context_value, of_entity, of_attribute, of_tag, is_kept}
+use Rattle.cedar_reasons.specs.Names.{value_name, tag_name, context_name}
 
 -- ---- the request
 
@@ -20,32 +23,61 @@ kept_entry true entry = entry
 kept_entry false (known_entry e) = unknown_entry (Some e.type_name)
 kept_entry false (unknown_entry t) = unknown_entry t
 
-abbrev pub kept_context : Bool → ContextPart → ContextPart
-kept_context true c = c
-kept_context false c = absent_context
+-- the terms of a context under their names: a value is written as its expression
+abbrev pub context_terms : ContextPart → Fields
+context_terms absent_context = no_fields
+context_terms (known_context vs) = expressions_at vs
+context_terms (residual_context es) = es
+
+-- a value of the context that is kept, or its unknown
+abbrev pub reduced_term : List KnownFact → Text → Term → Term
+reduced_term fs k t = if is_kept fs (of_context_value k) then t else unknown (context_name k) None
+
+abbrev pub reduced_fields : List KnownFact → Fields → Fields
+reduced_fields fs no_fields = no_fields
+reduced_fields fs (one_field k t es) = one_field k (reduced_term fs k t) (reduced_fields fs es)
+
+-- whether each value under these names is kept
+abbrev pub keeps_names : List KnownFact → List Text → Bool
+keeps_names fs ks = list_all (λ k. is_kept fs (of_context_value k)) ks
+
+-- the context as it is where all its values are kept, and else what is left
+abbrev pub reduced_context : List KnownFact → ContextPart → ContextPart
+reduced_context fs c =
+    if keeps_names fs (context_keys c) then c else residual_context (reduced_fields fs (context_terms c))
+
+abbrev pub kept_context : Bool → List KnownFact → ContextPart → ContextPart
+kept_context true fs c = reduced_context fs c
+kept_context false fs c = absent_context
 
 abbrev pub reduced_request : List KnownFact → RequestPart → RequestPart
 reduced_request fs r = record {
   principal_entry = kept_entry (is_kept fs of_principal) r.principal_entry;
   action_entry = kept_entry (is_kept fs of_action) r.action_entry;
   resource_entry = kept_entry (is_kept fs of_resource) r.resource_entry;
-  context_part = kept_context (is_kept fs of_context) r.context_part;
+  context_part = kept_context (is_kept fs of_context) fs r.context_part;
 }
 
 -- ---- entities
 
--- a value that is kept, or its unknown
-abbrev pub kept_value : Bool → EntityName → Text → PartialValue → PartialValue
-kept_value true n k p = p
-kept_value false n k p = residual (unknown (value_name n k) None)
+-- a value that is kept, or its unknown, of this name
+abbrev pub kept_value : Bool → Text → PartialValue → PartialValue
+kept_value true u p = p
+kept_value false u p = residual (unknown u None)
 
 abbrev pub reduced_part : List KnownFact → EntityName → (Text × PartialValue) → (Text × PartialValue)
-reduced_part fs n p = (p.0, kept_value (is_kept fs (of_attribute n p.0)) n p.0 p.1)
+reduced_part fs n p = (p.0, kept_value (is_kept fs (of_attribute n p.0)) (value_name n p.0) p.1)
 
--- an entity has its ancestors, its tags and the names of its attributes; of these the values that are kept
+abbrev pub reduced_tag : List KnownFact → EntityName → (Text × PartialValue) → (Text × PartialValue)
+reduced_tag fs n p = (p.0, kept_value (is_kept fs (of_tag n p.0)) (tag_name n p.0) p.1)
+
+-- an entity has its ancestors, and the names of its attributes and tags; of these the values that are kept
 abbrev pub reduced_entity : List KnownFact → EntityName → StoredEntity → StoredEntity
-reduced_entity fs n d =
-    record { attributes = map (reduced_part fs n) d.attributes; tags = d.tags; ancestors = d.ancestors }
+reduced_entity fs n d = record {
+  attributes = map (reduced_part fs n) d.attributes;
+  tags = map (reduced_tag fs n) d.tags;
+  ancestors = d.ancestors;
+}
 
 abbrev pub kept_entity : Bool → List KnownFact → EntityName → Option StoredEntity → Option StoredEntity
 kept_entity true fs n o = option_map (reduced_entity fs n) o

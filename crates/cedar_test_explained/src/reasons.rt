@@ -123,12 +123,22 @@ fn put_fact(answer: &mut Answer, fact: Fact<'_>) {
         Fact::Action => answer.put("action"),
         Fact::Resource => answer.put("resource"),
         Fact::Context => answer.put("context"),
+        Fact::ContextValue(name) => {
+            answer.put("context.");
+            answer.put(name.as_str());
+        }
         Fact::NoOtherEntity => answer.put("no other entity"),
         Fact::Entity(uid) => answer.show(uid),
         Fact::Attribute(uid, name) => {
             answer.show(uid);
             answer.put(".");
             answer.put(name.as_str());
+        }
+        Fact::Tag(uid, name) => {
+            answer.show(uid);
+            answer.put(".getTag(");
+            answer.put(name.as_str());
+            answer.put(")");
         }
     }
 }

@@ -1,7 +1,6 @@
-use Rattle.std.proofs.Common.{Some, if◌then◌else◌, ap, sym, ◌∙◌}
-use Rattle.cedar_layers.specs.Stores.{entity_name, entity_view, no_entities, with_entities, with_entity}
+use Rattle.std.proofs.Common.{ap, sym, ◌∙◌}
+use Rattle.cedar_layers.specs.Stores.{no_entities, with_entities, with_entity}
 use Rattle.cedar_reasons.specs.Facts.{facts_view}
-use Rattle.cedar_reasons.specs.Reduced.{reduced_entity}
 use Rattle.cedar_reasons.proofs.Kept.{one_more, kept_now, not_now}
 use Rattle.cedar_reasons.proofs.entities.add_kept.Goals as goal
 

@@ -1,4 +1,4 @@
-use Rattle.std.proofs.Common.{ap, sym, ◌∙◌, true, subst, ◌≡◌}
+use Rattle.std.proofs.Common.{ap, ◌∙◌}
 use Rattle.cedar_values.proofs.Written.{key_cmp}
 use Rattle.cedar_layers.specs.Parts.{parts_view, are_restricted_parts}
 use Rattle.cedar_layers.proofs.Parts.{restricted_insert}

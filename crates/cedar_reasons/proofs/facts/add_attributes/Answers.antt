@@ -1,7 +1,6 @@
-use Rattle.std.proofs.Common.{◌++◌, map, sym, ap, ◌∙◌, subst, ◌≡◌}
+use Rattle.std.proofs.Common.{◌++◌, map, sym, ap, ◌∙◌}
 use Rattle.std.specs.Rc.{rc_str_bytes}
-use Rattle.cedar_model.specs.Settings.{names_of}
-use Rattle.cedar_layers.specs.Stores.{entity_name, entity_view}
+use Rattle.cedar_layers.specs.Stores.{entity_name}
 use Rattle.cedar_reasons.specs.Facts.{facts_view, of_attribute}
 use Rattle.cedar_reasons.proofs.Listed.{put_behind, all_made}
 use Rattle.cedar_reasons.proofs.facts.add_attributes.Goals as goal
