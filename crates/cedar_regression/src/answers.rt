@@ -16,13 +16,6 @@ use cedar_policy_core::entities::Entities;
 use cedar_policy_core::extensions::Extensions;
 use std::alloc::{AllocError, Global};
 
-/// Entities that requests are asked over, and in which way they are answered.
-#[derive(Clone, Copy)]
-pub(crate) struct Over<'a> {
-    pub(crate) entities: &'a Entities,
-    pub(crate) way: Way,
-}
-
 /// The answers of the old policies and of the new ones to one request.
 #[derive(Drop)]
 pub(crate) struct Both {
@@ -35,17 +28,18 @@ pub(crate) fn both_answers(
     alloc: Global,
     old: &PolicySet,
     new: &PolicySet,
-    over: Over<'_>,
+    entities: &Entities,
+    way: Way,
     asked: &Asked<'_, '_>,
     extensions: &Extensions<'_>,
 ) -> Result<Both, Refusal>
     ensures answered { IfOk result (AreBothOver (extensions_view extensions.now) (calls_of extensions.now) old.now
-        new.now over.entry.entities.now over.entry.way asked.now) }
+        new.now entities.now way asked.now) }
     ensures refused { IfErr result (IsToldFor
         (IsRequestUnread (extensions_view extensions.now) (calls_of extensions.now) asked.now)) }
 {
-    let old = answer_of(alloc, old, over, asked, extensions)?;
-    let new = answer_of(alloc, new, over, asked, extensions)?;
+    let old = answer_of(alloc, old, entities, way, asked, extensions)?;
+    let new = answer_of(alloc, new, entities, way, asked, extensions)?;
     Ok(Both { old, new })
 }
 
@@ -53,17 +47,18 @@ pub(crate) fn both_answers(
 pub(crate) fn answer_of(
     alloc: Global,
     policies: &PolicySet,
-    over: Over<'_>,
+    entities: &Entities,
+    way: Way,
     asked: &Asked<'_, '_>,
     extensions: &Extensions<'_>,
 ) -> Result<Answer, Refusal>
     ensures answered { IfOk result (λ a. IsAnswerOver (extensions_view extensions.now) (calls_of extensions.now)
-        policies.now over.entry.entities.now over.entry.way asked.now (answer_view a)) }
+        policies.now entities.now way asked.now (answer_view a)) }
     ensures refused { IfErr result (IsToldFor
         (IsRequestUnread (extensions_view extensions.now) (calls_of extensions.now) asked.now)) }
 {
     let request = whole_request(alloc, asked, extensions)?;
-    let response = respond(alloc, request, policies, over, extensions)?;
+    let response = respond(alloc, request, policies, entities, way, extensions)?;
     let answer = answer_in(alloc, policies, &response);
     drop(response);
     Ok(answer?)
@@ -75,15 +70,14 @@ fn respond(
     alloc: Global,
     request: Request,
     policies: &PolicySet,
-    over: Over<'_>,
+    entities: &Entities,
+    way: Way,
     extensions: &Extensions<'_>,
 ) -> Result<Response, AllocError>
     ensures { IfOk result (λ r. IsResponseTo (extensions_view extensions.now) (calls_of extensions.now)
-        policies.now over.entry.entities.now request over.entry.way (response_view r)) }
+        policies.now entities.now request way (response_view r)) }
 {
-    let limit = over.way.limit.unwrap_or(text_limit());
-    let authorizer = Authorizer::new(extensions, limit).with_error_handling(
-        over.way.error_handling,
-    );
-    authorizer.is_authorized(alloc, request, policies, over.entities)
+    let limit = way.limit.unwrap_or(text_limit());
+    let authorizer = Authorizer::new(extensions, limit).with_error_handling(way.error_handling);
+    authorizer.is_authorized(alloc, request, policies, entities)
 }

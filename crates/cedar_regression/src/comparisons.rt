@@ -9,13 +9,14 @@ ghost use Rattle.cedar_cli.specs.Reasons.{IsToldFor, IsStoreUnread};
 ghost use Rattle.cedar_regression.specs.Compared.{AreCompared, AreUncompared, AreComparedBy, AreComparedOver};
 ghost use Rattle.cedar_regression.specs.Compared.{AreLinesOver, IsLineOver};
 
-use crate::answers::{Both, Over, both_answers};
+use crate::answers::{Both, both_answers};
 use cedar_cli::{
     Asked, Printed, Refusal, Source, Way, given_store, line_of, read_over, refusal_document,
     tell_templates,
 };
 use cedar_expectations::{Comparison, Comparisons, compare};
 use cedar_policy_core::ast::PolicySet;
+use cedar_policy_core::entities::Entities;
 use cedar_policy_core::extensions::Extensions;
 use cedar_policy_core::extensions::laws::functions_are_computed;
 use cedar_policy_core::parser::ParsedPolicies;
@@ -24,22 +25,6 @@ use std::alloc::{AllocError, Global};
 
 // What a request is called whose line is refused.
 const REQUEST_NAME: &str = "the request";
-
-// A text of policies, and what is read of it.
-#[derive(Clone, Copy)]
-struct Read<'p> {
-    source: Source<'p>,
-    parsed: &'p ParsedPolicies,
-}
-
-// The policies that are compared, the entities, and what else is asked.
-#[derive(Clone, Copy)]
-struct Sides<'p, 'm, 't> {
-    old: &'p PolicySet,
-    new: &'p PolicySet,
-    over: Over<'p>,
-    asked: &'p Asked<'m, 't>,
-}
 
 /// What the old and the new policies answer differently to requests over the same entities, of which each line of the
 /// text has one in JSON: in their order a line of JSON for each request to which the decisions differ, or a reason or an
@@ -64,65 +49,85 @@ pub fn compare_policies(
     let extensions = Extensions::all_available();
     let old_parsed = read_over(alloc, old, &extensions)?;
     let new_parsed = read_over(alloc, new, &extensions)?;
-    let old = Read {
-        source: old,
-        parsed: &old_parsed,
-    };
-    let new = Read {
-        source: new,
-        parsed: &new_parsed,
-    };
-    let printed = compare_read(alloc, old, new, asked, requests, way, &extensions);
+    let warnings = template_warnings(alloc, old, &old_parsed, new, &new_parsed);
+    let printed = compare_read(
+        alloc,
+        &old_parsed.policies,
+        &new_parsed.policies,
+        asked,
+        requests,
+        way,
+        &extensions,
+        warnings,
+    );
     drop((old_parsed, new_parsed));
     printed
 }
 
+// The templates of both texts are told.
+fn template_warnings(
+    alloc: Global,
+    old: Source<'_>,
+    old_parsed: &ParsedPolicies,
+    new: Source<'_>,
+    new_parsed: &ParsedPolicies,
+) -> Result<String, AllocError> {
+    let mut warnings = String::new(alloc);
+    tell_templates(alloc, old, &old_parsed.templates, &mut warnings)?;
+    tell_templates(alloc, new, &new_parsed.templates, &mut warnings)?;
+    Ok(warnings)
+}
+
 fn compare_read(
     alloc: Global,
-    old: Read<'_>,
-    new: Read<'_>,
+    old: &PolicySet,
+    new: &PolicySet,
     asked: &Asked<'_, '_>,
     requests: &str,
     way: Way,
     extensions: &Extensions<'_>,
+    warnings: Result<String, AllocError>,
 ) -> Result<Printed, Refusal>
     ensures compared { IfOk result (AreComparedBy (extensions_view extensions.now) (calls_of extensions.now)
-        old.entry.parsed.now.policies new.entry.parsed.now.policies asked.now requests.now way) }
+        old.now new.now asked.now requests.now way) }
     ensures refused { IfErr result (IsToldFor
         (IsStoreUnread (extensions_view extensions.now) (calls_of extensions.now) asked.now.entities
         asked.now.max_ancestors)) }
 {
-    let mut warnings = String::new(alloc);
-    tell_templates(alloc, old.source, &old.parsed.templates, &mut warnings)?;
-    tell_templates(alloc, new.source, &new.parsed.templates, &mut warnings)?;
+    let mut warnings = warnings?;
     let store = given_store(alloc, asked, extensions, &mut warnings)?;
-    let sides = Sides {
-        old: &old.parsed.policies,
-        new: &new.parsed.policies,
-        over: Over {
-            entities: &store.entities,
-            way,
-        },
+    let printed = compare_text(
+        alloc,
+        old,
+        new,
+        &store.entities,
+        way,
         asked,
-    };
-    let printed = compare_text(alloc, sides, requests, extensions, warnings);
+        requests,
+        extensions,
+        warnings,
+    );
     drop(store);
     Ok(printed?)
 }
 
 fn compare_text(
     alloc: Global,
-    sides: Sides<'_, '_, '_>,
+    old: &PolicySet,
+    new: &PolicySet,
+    entities: &Entities,
+    way: Way,
+    asked: &Asked<'_, '_>,
     requests: &str,
     extensions: &Extensions<'_>,
     warnings: String,
 ) -> Result<Printed, AllocError>
     ensures { IfOk result (AreComparedOver (extensions_view extensions.now) (calls_of extensions.now)
-        sides.entry.old.now sides.entry.new.now sides.entry.over.entities.now sides.entry.asked.now
-        sides.entry.over.way (lines requests.now)) }
+        old.now new.now entities.now asked.now
+        way (lines requests.now)) }
 {
     let lines = lines_of(alloc, requests)?;
-    let compared = compare_lines(alloc, sides, &lines, extensions);
+    let compared = compare_lines(alloc, old, new, entities, way, asked, &lines, extensions);
     drop(lines);
     let all = compared?;
     Ok(print_all(all, warnings))
@@ -149,17 +154,31 @@ fn print_all(all: Comparisons, warnings: String) -> Printed
 
 fn compare_lines(
     alloc: Global,
-    sides: Sides<'_, '_, '_>,
+    old: &PolicySet,
+    new: &PolicySet,
+    entities: &Entities,
+    way: Way,
+    asked: &Asked<'_, '_>,
     lines: &[&str],
     extensions: &Extensions<'_>,
 ) -> Result<Comparisons, AllocError>
     ensures { IfOk result (AreLinesOver (extensions_view extensions.now) (calls_of extensions.now)
-        sides.entry.old.now sides.entry.new.now sides.entry.over.entities.now sides.entry.asked.now
-        sides.entry.over.way (map (λ x. x.now) lines.now)) }
+        old.now new.now entities.now asked.now
+        way (map (λ x. x.now) lines.now)) }
 {
     let mut all = Comparisons::none(alloc);
     'lines: for i in 0..lines.len() {
-        let one = compare_line(alloc, sides, lines[i], i + 1, extensions)?;
+        let one = compare_line(
+            alloc,
+            old,
+            new,
+            entities,
+            way,
+            asked,
+            lines[i],
+            i + 1,
+            extensions,
+        )?;
         all.put(one)?;
     }
     Ok(all)
@@ -168,21 +187,25 @@ fn compare_lines(
 // What is printed of the request of the line, which has this number.
 fn compare_line(
     alloc: Global,
-    sides: Sides<'_, '_, '_>,
+    old: &PolicySet,
+    new: &PolicySet,
+    entities: &Entities,
+    way: Way,
+    asked: &Asked<'_, '_>,
     line: &str,
     number: usize,
     extensions: &Extensions<'_>,
 ) -> Result<Comparison, AllocError>
     ensures { IfOk result (λ c. IsLineOver (extensions_view extensions.now) (calls_of extensions.now)
-        sides.entry.old.now sides.entry.new.now sides.entry.over.entities.now sides.entry.asked.now
-        sides.entry.over.way number line.now (comparison_view c)) }
+        old.now new.now entities.now asked.now
+        way number line.now (comparison_view c)) }
 {
     let request = Source {
         name: REQUEST_NAME,
         text: line,
     };
-    let asked = ask(sides.asked, request);
-    match both_answers(alloc, sides.old, sides.new, sides.over, &asked, extensions) {
+    let asked_of_line = ask(asked, request);
+    match both_answers(alloc, old, new, entities, way, &asked_of_line, extensions) {
         Ok(both) => compare_both(alloc, both, number),
         Err(refusal) => refused(alloc, refusal, number),
     }

@@ -16,8 +16,8 @@ pub returns : goal.returns
 returns g c =
     let a = c.with_error_handling-authorizer.result in
     let x = c.args.extensions.now in
-    let w = c.args.over.way in
-    let s = c.args.over.entities.now in
+    let w = c.args.way in
+    let s = c.args.entities.now in
     let made = c.with_error_handling-authorizer.ensures in
     let first = c.new.ensures in
     let own : extensions_of a ≡ x = made.extensions ∙ first.extensions in

@@ -10,29 +10,27 @@ use Rattle.cedar_regression.proofs.comparisons.compare_line.Goals as goal
 pub returns-in-Ok : goal.returns-in-Ok
 returns-in-Ok g c =
     let x = c.args.extensions.now in
-    let d = c.args.sides in
-    let s = d.over.entities.now in
+    let s = c.args.entities.now in
     let old = answer_view c.in-Ok.both.old in
     let new = answer_view c.in-Ok.both.new in
-    line_compared (IsAnswerOver (extensions_view x) (calls_of x) d.old.now s d.over.way)
-    (IsAnswerOver (extensions_view x) (calls_of x) d.new.now s d.over.way)
-    (IsRequestUnread (extensions_view x) (calls_of x)) d.asked.now (record { name = _; text = c.args.line })
+    line_compared (IsAnswerOver (extensions_view x) (calls_of x) c.args.old.now s c.args.way)
+    (IsAnswerOver (extensions_view x) (calls_of x) c.args.new.now s c.args.way)
+    (IsRequestUnread (extensions_view x) (calls_of x)) c.args.asked.now (record { name = _; text = c.args.line })
     c.args.number old new c.compare_both.result
-    (subst (λ (q : Asked). IsAnswerOver (extensions_view x) (calls_of x) d.old.now s d.over.way q old)
-    c.ask-asked.ensures c.in-Ok.ensures.answered.old_is)
-    (subst (λ (q : Asked). IsAnswerOver (extensions_view x) (calls_of x) d.new.now s d.over.way q new)
-    c.ask-asked.ensures c.in-Ok.ensures.answered.new_is)
+    (subst (λ (q : Asked). IsAnswerOver (extensions_view x) (calls_of x) c.args.old.now s c.args.way q old)
+    c.ask-asked_of_line.ensures c.in-Ok.ensures.answered.old_is)
+    (subst (λ (q : Asked). IsAnswerOver (extensions_view x) (calls_of x) c.args.new.now s c.args.way q new)
+    c.ask-asked_of_line.ensures c.in-Ok.ensures.answered.new_is)
     c.compare_both.ensures
 
 pub returns-in-Err : goal.returns-in-Err
 returns-in-Err g c =
     let x = c.args.extensions.now in
-    let d = c.args.sides in
-    let s = d.over.entities.now in
-    line_refused (IsAnswerOver (extensions_view x) (calls_of x) d.old.now s d.over.way)
-    (IsAnswerOver (extensions_view x) (calls_of x) d.new.now s d.over.way)
-    (IsRequestUnread (extensions_view x) (calls_of x)) d.asked.now (record { name = c.args.line; text = c.args.line })
+    let s = c.args.entities.now in
+    line_refused (IsAnswerOver (extensions_view x) (calls_of x) c.args.old.now s c.args.way)
+    (IsAnswerOver (extensions_view x) (calls_of x) c.args.new.now s c.args.way)
+    (IsRequestUnread (extensions_view x) (calls_of x)) c.args.asked.now (record { name = c.args.line; text = c.args.line })
     c.args.number c.in-Err.refusal c.refused.result
     (subst (λ (q : Asked). IsToldFor (IsRequestUnread (extensions_view x) (calls_of x) q) c.in-Err.refusal)
-    c.ask-asked.ensures c.in-Err.ensures.refused)
+    c.ask-asked_of_line.ensures c.in-Err.ensures.refused)
     c.refused.ensures.told c.refused.ensures.refused c.refused.ensures.same c.refused.ensures.line

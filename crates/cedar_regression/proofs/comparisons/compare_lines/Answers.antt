@@ -9,19 +9,17 @@ use Rattle.cedar_regression.proofs.comparisons.compare_lines.Goals as goal
 pub lines-init : goal.lines-init
 lines-init g c =
     let x = c.args.extensions.now in
-    let d = c.args.sides in
     none_yet
-    (IsLineOver (extensions_view x) (calls_of x) d.old.now d.new.now d.over.entities.now d.asked.now d.over.way)
-    (map (λ t. t.now) c.args.lines.now) _ c.none.ensures.output c.none.ensures.refused c.none.ensures.different
+    (IsLineOver (extensions_view x) (calls_of x) c.args.old.now c.args.new.now c.args.entities.now c.args.asked.now c.args.way)
+    (map (λ t. t.now) c.args.lines.now) _ c.none-all.ensures.output c.none-all.ensures.refused c.none-all.ensures.different
 
 pub lines-preserved : goal.lines-preserved
 lines-preserved g c =
     let x = c.args.extensions.now in
-    let d = c.args.sides in
     let lines = c.args.lines.now in
     let i = c.lines.i in
     one_more
-    (IsLineOver (extensions_view x) (calls_of x) d.old.now d.new.now d.over.entities.now d.asked.now d.over.way)
+    (IsLineOver (extensions_view x) (calls_of x) c.args.old.now c.args.new.now c.args.entities.now c.args.asked.now c.args.way)
     (map (λ t. t.now) lines) _ (map (λ t. t.now) (drop i lines)) (map (λ t. t.now) (drop (i + 1) lines)) (i + 1)
     c.in_ok-one.one c.lines.all c.put.new.self
     (next_line lines i _ c.lines-test.true)
@@ -31,12 +29,11 @@ lines-preserved g c =
 pub returns : goal.returns
 returns g c =
     let x = c.args.extensions.now in
-    let d = c.args.sides in
     let so_far = c.lines.invariant in
     record {
       comparisons = so_far.done;
       each = all_each
-          (IsLineOver (extensions_view x) (calls_of x) d.old.now d.new.now d.over.entities.now d.asked.now d.over.way)
+          (IsLineOver (extensions_view x) (calls_of x) c.args.old.now c.args.new.now c.args.entities.now c.args.asked.now c.args.way)
           (map (λ t. t.now) c.args.lines.now) _ _ c.lines.all
           (ap (map (λ t. t.now)) (drop_all c.lines.i c.args.lines.now c.lines-test.false)) so_far;
       output_is = so_far.output_is;

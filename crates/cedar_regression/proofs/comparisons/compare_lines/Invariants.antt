@@ -7,7 +7,6 @@ use Rattle.cedar_regression.proofs.comparisons.compare_lines.Given as goal
 -- the lines so far, and those that are left
 abbrev pub invariant-lines : goal.invariant-lines
 invariant-lines g l =
-    let d = l.fn.sides in
-    AreSoFar (IsLineOver (extensions_view l.fn.extensions) (calls_of l.fn.extensions) d.old.now d.new.now
-    d.over.entities.now d.asked.now d.over.way) (map (λ t. t.now) l.fn.lines)
+    AreSoFar (IsLineOver (extensions_view l.fn.extensions) (calls_of l.fn.extensions) l.fn.old l.fn.new
+    l.fn.entities l.fn.asked l.fn.way) (map (λ t. t.now) l.fn.lines)
     (map (λ t. t.now) (drop l.i l.fn.lines)) (l.i + 1) l.all

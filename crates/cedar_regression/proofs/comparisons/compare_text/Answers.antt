@@ -8,11 +8,10 @@ use Rattle.cedar_regression.proofs.comparisons.compare_text.Goals as goal
 pub returns : goal.returns
 returns g c =
     let x = c.args.extensions.now in
-    let d = c.args.sides in
     let of = c.in_ok-all.ensures in
     let all = c.in_ok-all.all in
-    subst (λ (ls : List Text). AreComparedOver (extensions_view x) (calls_of x) d.old.now d.new.now
-    d.over.entities.now d.asked.now d.over.way ls c.print_all.result)
+    subst (λ (ls : List Text). AreComparedOver (extensions_view x) (calls_of x) c.args.old.now c.args.new.now
+    c.args.entities.now c.args.asked.now c.args.way ls c.print_all.result)
     (ap (map (λ l. l.now)) c.deref.ensures.value ∙ c.in_ok-lines.ensures)
     (record {
       comparisons = of.comparisons;
