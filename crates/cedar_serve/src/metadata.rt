@@ -3,7 +3,7 @@
 ghost use Rattle.std.specs.Prelude.{◌≡◌, ◌∷◌, [], ◌++◌, option_map, IfOk, OnOk, string_bytes};
 ghost use Rattle.json.specs.Json.{string};
 ghost use Rattle.cedar_json_writer.specs.Trees.{json_view, members_seen};
-ghost use Rattle.cedar_serve.specs.Metadata.{metadata_json, metadata_text};
+ghost use Rattle.cedar_serve.specs.Metadata.{metadata_json, metadata_text, searches};
 
 use cedar_json_writer::{JsonValue, put_member, text_to_json};
 use std::alloc::{AllocError, Global};
@@ -11,7 +11,8 @@ use std::rc::RcStr;
 
 /// The metadata of a service at this URL, as JSON, if one is given. Refuses only if out of memory.
 pub(crate) fn metadata_of(alloc: Global, url: Option<&str>) -> Result<Option<String>, AllocError>
-    ensures { IfOk result (λ m. option_map string_bytes m ≡ option_map metadata_text (option_map (λ u. u.now) url.entry)) }
+    ensures { IfOk result (λ m.
+        option_map string_bytes m ≡ option_map metadata_text (option_map (λ u. u.now) url.entry)) }
 {
     match url {
         Some(url) => Ok(Some(metadata_text(alloc, url)?)),
@@ -47,7 +48,38 @@ fn metadata_json(alloc: Global, url: &str) -> Result<JsonValue, AllocError>
         "/access/v1/evaluations",
         &mut members,
     )?;
+    put_searches(alloc, url, &mut members)?;
     Ok(JsonValue::Object(members))
+}
+
+fn put_searches(
+    alloc: Global,
+    url: &str,
+    members: &mut Vec<(RcStr, JsonValue)>,
+) -> Result<(), AllocError>
+    ensures { OnOk result (members_seen members.new.items ≡ members_seen members.old.items ++ searches url.now) }
+{
+    put_endpoint(
+        alloc,
+        "search_subject_endpoint",
+        url,
+        "/access/v1/search/subject",
+        members,
+    )?;
+    put_endpoint(
+        alloc,
+        "search_action_endpoint",
+        url,
+        "/access/v1/search/action",
+        members,
+    )?;
+    put_endpoint(
+        alloc,
+        "search_resource_endpoint",
+        url,
+        "/access/v1/search/resource",
+        members,
+    )
 }
 
 // Where this path is of a service at this URL.

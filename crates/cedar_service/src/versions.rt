@@ -1,0 +1,29 @@
+//! Versions.
+ghost use Rattle.std.specs.Prelude.{◌≡◌, ◌++◌, ◌∷◌, IfOk, string_bytes};
+ghost use Rattle.sha2.specs.Sha256.{sha256};
+ghost use Rattle.cedar_service.specs.Versions.{version_text};
+
+use sha2::{Digest, Sha256};
+use std::alloc::{AllocError, Global};
+
+/// The version of what these policies and these entities decide: the same for the same texts. Refuses only if out of
+/// memory.
+pub(crate) fn version_of(
+    alloc: Global,
+    policies: &str,
+    entities: &str,
+) -> Result<String, AllocError>
+    ensures { IfOk result (λ s. string_bytes s ≡ version_text policies.now entities.now) }
+{
+    hex::encode(alloc, digest_of(policies, entities))
+}
+
+fn digest_of(policies: &str, entities: &str) -> [u8; 32]
+    ensures { result ≡ sha256 (policies.now ++ 0 ∷ entities.now) }
+{
+    let mut hasher = Sha256::new();
+    hasher.update(policies.as_bytes());
+    hasher.update("\0".as_bytes());
+    hasher.update(entities.as_bytes());
+    hasher.finalize()
+}
