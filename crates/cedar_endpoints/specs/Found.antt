@@ -1,5 +1,5 @@
 -- What a search is replied.
-use Rattle.std.specs.Prelude.{◌++◌, ℕ, [], Option, Some, None, Ok, Err, map, codes, string_bytes}
+use Rattle.std.specs.Prelude.{◌++◌, ℕ, Option, Some, None, Ok, Err, map, codes, string_bytes}
 use Rattle.json.specs.Json.{Json}
 use Rattle.cedar_endpoints.specs.declared.answers.Status.TheVariants as statuses
 use Rattle.cedar_endpoints.specs.declared.replies.Finding.{Finding}

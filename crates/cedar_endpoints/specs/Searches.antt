@@ -1,5 +1,5 @@
 -- What a document asks that searches.
-use Rattle.std.specs.Prelude.{[], Option, Some, None, Ok, Err, option_map, codes}
+use Rattle.std.specs.Prelude.{[], Option, Some, None, Ok, option_map, codes}
 use Rattle.json.specs.Json.{Json}
 use Rattle.json.specs.Find.{as_str, get}
 use Rattle.json.specs.Value.{value_view}

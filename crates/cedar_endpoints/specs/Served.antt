@@ -1,5 +1,5 @@
 -- What a service answers to requests over HTTP, whatever decides behind it.
-use Rattle.std.specs.Prelude.{List, ℕ, Option, Some, None, Err, Ok, codes, string_bytes}
+use Rattle.std.specs.Prelude.{List, ℕ, Option, Some, None, codes, string_bytes}
 use Rattle.std.specs.Str.{IsUtf8}
 use Rattle.json.specs.Json.{Json}
 use Rattle.http.specs.declared.request.Request.{Request}
