@@ -153,7 +153,7 @@ fn fault_json(alloc: Global, path: &str, reason: &str) -> Result<JsonValue, Allo
     Ok(JsonValue::Object(members))
 }
 
-pub(crate) fn put_text(
+fn put_text(
     alloc: Global,
     key: &str,
     text: &str,

@@ -1,6 +1,7 @@
 #![tactic(auto, using(cedar_json_writer::proofs::Trees::trees))]
 //! What is found, as JSON.
-ghost use Rattle.std.specs.Prelude.{◌≡◌, ◌++◌, ◌∷◌, [], IfOk, OnOk, map, codes, string_bytes};
+ghost use Rattle.std.specs.Prelude.{◌≡◌, ◌++◌, ◌∷◌, [], IfOk, OnOk, map, string_bytes};
+ghost use Rattle.std.specs.Rc.{rc_str_bytes};
 ghost use Rattle.json.specs.Json.{string};
 ghost use Rattle.cedar_json_writer.specs.Trees.{json_view, members_seen};
 ghost use Rattle.cedar_names.specs.Names.{uid_name};
@@ -8,9 +9,8 @@ ghost use Rattle.cedar_search.specs.Questions.{names_of};
 ghost use Rattle.cedar_search.specs.declared.searches.Part.TheVariants as parts;
 ghost use Rattle.cedar_service.specs.Searched.{found_text, found_json, entity_json};
 
-use crate::faults::put_text;
 use cedar_fallible::add_last;
-use cedar_json_writer::JsonValue;
+use cedar_json_writer::{JsonValue, put_member};
 use cedar_names::EntityUID;
 use cedar_search::Part;
 use std::alloc::{AllocError, Global};
@@ -67,8 +67,8 @@ fn entity_json(alloc: Global, uid: &EntityUID) -> Result<JsonValue, AllocError>
     ensures { IfOk result (λ j. json_view j ≡ entity_json (uid_name uid.now)) }
 {
     let mut members: Vec<(RcStr, JsonValue)> = Vec::new(alloc);
-    put_text(alloc, "type", uid.entity_type().text(), &mut members)?;
-    put_text(alloc, "id", uid.eid(), &mut members)?;
+    put_name(alloc, "type", uid.entity_type().text(), &mut members)?;
+    put_name(alloc, "id", uid.eid(), &mut members)?;
     Ok(JsonValue::Object(members))
 }
 
@@ -76,6 +76,19 @@ fn action_json(alloc: Global, uid: &EntityUID) -> Result<JsonValue, AllocError>
     ensures { IfOk result (λ j. json_view j ≡ found_json parts.Action (uid_name uid.now)) }
 {
     let mut members: Vec<(RcStr, JsonValue)> = Vec::new(alloc);
-    put_text(alloc, "name", uid.eid(), &mut members)?;
+    put_name(alloc, "name", uid.eid(), &mut members)?;
     Ok(JsonValue::Object(members))
+}
+
+fn put_name(
+    alloc: Global,
+    key: &str,
+    name: &RcStr,
+    members: &mut Vec<(RcStr, JsonValue)>,
+) -> Result<(), AllocError>
+    ensures { OnOk result (members_seen members.new.items
+        ≡ members_seen members.old.items ++ (key.now, string (rc_str_bytes name.now)) ∷ []) }
+{
+    let name: RcStr = name.clone()?;
+    put_member(alloc, key, JsonValue::String(name), members)
 }
