@@ -1,5 +1,5 @@
 -- What a search of an engine finds.
-use Rattle.std.specs.Prelude.{◌≡◌, ℕ, [], true, false, Option, Some, map, codes, string_bytes}
+use Rattle.std.specs.Prelude.{◌≡◌, ℕ, List, [], true, false, Option, Some, map, codes, string_bytes}
 use Rattle.json.specs.Json.{Json, object, member, no_members, string}
 use Rattle.json.specs.Print.{print}
 use Rattle.json.specs.Tree.{json_tokens}
@@ -108,13 +108,17 @@ IsUnfound (refusals.Told t) (findings.Refused error) = error ≡ t
 
 -- ---- searches
 
+-- what is found is a page of these candidates
+abbrev pub IsListed : Question → List EntityName → ℕ → ℕ → Finding → Type 0
+IsListed q us after most f = (p : Page) × IsPage q us after most p × IsFindingOf q.part p f
+
 -- what is found for a request of which a part is searched for: the page of those candidates with which it is allowed;
 -- or where an unknown stands in its context, that
 pub data IsPageFor (X : world.Extensions) (calls : StoredCalls) (e : Engine) (part : Part) (r : Request)
     (after most : ℕ) (f : Finding) : Type 0 where
-  listed : (p : Page) → has_known_context r ≡ true
-      → IsPage (question_of X calls e part (opened part (request_view r))) (candidates_of e) after most p
-      → IsFindingOf part p f → IsPageFor X calls e part r after most f
+  listed : has_known_context r ≡ true
+      → IsListed (question_of X calls e part (opened part (request_view r))) (candidates_of e) after most f
+      → IsPageFor X calls e part r after most f
   not_known : has_known_context r ≡ false
       → IsUnfoundAs (IsFault (codes "$.context") (codes "an unknown stands in it")) f
       → IsPageFor X calls e part r after most f

@@ -7,8 +7,8 @@ ghost use Rattle.cedar_endpoints.specs.Asked.{evaluation_view, named_view};
 ghost use Rattle.cedar_endpoints.specs.Searches.{search_view, parts_view};
 ghost use Rattle.cedar_service.specs.Asked.{has_known_context};
 ghost use Rattle.cedar_service.specs.Engines.{candidates_of};
-ghost use Rattle.cedar_service.specs.Searched.{sample, sample_named, sample_with, part_of, opened, question_of};
-ghost use Rattle.cedar_service.specs.Searched.{IsFound, IsFoundWith, IsPageFor, IsFindingOf, IsUnfound};
+ghost use Rattle.cedar_service.specs.Searched.{sample, sample_named, part_of, question_of};
+ghost use Rattle.cedar_service.specs.Searched.{IsFound, IsFoundWith, IsPageFor, IsListed, IsFindingOf, IsUnfound};
 
 use crate::engine::Engine;
 use crate::faults::{Refusal, refuse};
@@ -148,12 +148,26 @@ fn find_known(
         after most) }
 {
     let open = opened(part, request)?;
-    let answer = page_of(engine, alloc, part, &open, after, most, extensions);
+    let finding = listed(engine, alloc, part, &open, after, most, extensions);
     drop(open);
-    let page = answer?;
-    let finding = finding_of(alloc, part, &page);
-    drop(page);
     finding
+}
+
+fn listed(
+    engine: &Engine,
+    alloc: Global,
+    part: Part,
+    request: &Request,
+    after: usize,
+    most: usize,
+    extensions: &Extensions<'_>,
+) -> Result<Finding, AllocError>
+    ensures { IfOk result (IsListed
+        (question_of (extensions_view extensions.now) (calls_of extensions.now) engine.now part
+        (request_view request.now)) (candidates_of engine.now) after most) }
+{
+    let page = page_of(engine, alloc, part, request, after, most, extensions)?;
+    finding_of(alloc, part, &page)
 }
 
 fn page_of(

@@ -1,5 +1,5 @@
 //! Versions.
-ghost use Rattle.std.specs.Prelude.{◌≡◌, ◌++◌, ◌∷◌, IfOk, string_bytes};
+ghost use Rattle.std.specs.Prelude.{◌≡◌, ◌++◌, ◌∷◌, [], IfOk, string_bytes};
 ghost use Rattle.sha2.specs.Sha256.{sha256};
 ghost use Rattle.cedar_service.specs.Versions.{version_text};
 
@@ -19,11 +19,11 @@ pub(crate) fn version_of(
 }
 
 fn digest_of(policies: &str, entities: &str) -> [u8; 32]
-    ensures { result ≡ sha256 (policies.now ++ 0 ∷ entities.now) }
+    ensures { result ≡ sha256 ((policies.now ++ 0 ∷ []) ++ entities.now) }
 {
     let mut hasher = Sha256::new();
     hasher.update(policies.as_bytes());
-    hasher.update("\0".as_bytes());
+    hasher.update([0_u8]);
     hasher.update(entities.as_bytes());
     hasher.finalize()
 }

@@ -1,6 +1,7 @@
-use Rattle.std.proofs.Common.{◌∙◌, ap, sym, subst, IfOk, List, map}
+use Rattle.std.proofs.Common.{◌≡◌, ◌∙◌, ap, sym, subst, map}
 use Rattle.std.specs.BTreeMap.{keys}
 use Rattle.std.specs.List.{IsDistinct}
+use Rattle.std.specs.Option.{is_some}
 use Rattle.cedar_model.specs.Terms.{EntityName}
 use Rattle.cedar_model.specs.Outcomes.{entity_eq}
 use Rattle.cedar_model.specs.Settings.{is_among}
@@ -14,10 +15,14 @@ use Rattle.cedar_service.proofs.candidates.uids_of.Goals as goal
 pub returns-clause-has : goal.returns-clause-has
 returns-clause-has c =
     let m = c.args.stored.now in
-    of_ok _ _ (λ us same n. ap (is_among n) same ∙ among_shown m.entries n) c.copies_of.result c.copies_of.ensures.names
+    of_ok (λ us. map uid_name us.items ≡ map uid_name (keys m))
+    (λ us. (n : EntityName) → is_among n (map uid_name us.items) ≡ is_some (shown m.entries n))
+    (λ us same n. ap (is_among n) same ∙ among_shown m.entries n) c.copies_of.result c.copies_of.ensures.names
 
 pub returns-clause-once : goal.returns-clause-once
 returns-clause-once c =
     let m = c.args.stored.now in
-    of_both _ _ _ (λ us same tied. subst (IsDistinct entity_eq) (sym same) (names_distinct (keys m) tied))
+    of_both (λ us. map uid_name us.items ≡ map uid_name (keys m)) (λ us. IsDistinct is_tied (keys m))
+    (λ us. IsDistinct entity_eq (map uid_name us.items))
+    (λ us same tied. subst (IsDistinct entity_eq) (sym same) (names_distinct (keys m) tied))
     c.copies_of.result c.copies_of.ensures.names c.copies_of.ensures.tied
