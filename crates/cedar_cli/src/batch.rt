@@ -269,9 +269,9 @@ fn refused_for(alloc: Global, lines: &str, number: usize) -> Result<Answered, Al
     })
 }
 
-// The reason, at `error`, and the number of the line, at `line`.
+/// Why a line is refused, as JSON: the reason, at `error`, and the number of the line, at `line`.
 #[tactic(auto, using(cedar_json_writer::proofs::Trees::trees))]
-fn refusal_document(alloc: Global, why: &str, line: usize) -> Result<JsonValue, AllocError>
+pub fn refusal_document(alloc: Global, why: &str, line: usize) -> Result<JsonValue, AllocError>
     ensures { IfOk result (λ d. json_view d ≡ refusal_json why.now line) }
 {
     let mut members: Vec<(RcStr, JsonValue)> = Vec::new(alloc);

@@ -133,7 +133,7 @@ pub(crate) fn print_document(
 }
 
 /// The JSON value as text, on a line of its own.
-pub(crate) fn line_of(alloc: Global, document: &JsonValue) -> Result<String, AllocError>
+pub fn line_of(alloc: Global, document: &JsonValue) -> Result<String, AllocError>
     ensures { IfOk result (λ s. string_bytes s ≡ print (json_tokens (json_view document.now)) ++ codes "\n") }
 {
     let mut line = document.to_text(alloc)?;
@@ -389,8 +389,8 @@ fn push_name_line(alloc: Global, policy: &Policy, lines: &mut String) -> Result<
     Ok(())
 }
 
-/// How the policy is called, as it is told.
-pub(crate) fn push_visible_name(
+/// Puts how the policy is called behind the rest, as it is told: what could be taken for another line is shown.
+pub fn push_visible_name(
     alloc: Global,
     policy: &Policy,
     output: &mut String,

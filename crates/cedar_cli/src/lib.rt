@@ -20,6 +20,9 @@
 //! that can't be meant (`specs/Strict`), and `translate_to_json` prints policies as JSON (`specs/Translated`). Words
 //! and statuses go by `specs/Printing`, policies' names by `specs/Named`, what is printed as JSON by `specs/Documents`,
 //! lines and columns by `specs/Noted`.
+//! What reads the parts of a question is public too, for crates that answer other questions over the same texts: policies
+//! (`read_over`), a store (`given_store`), a request (`whole_request`), and what is told of them (`specs/Questions`,
+//! `specs/Reasons`).
 //! `docs/COMMANDS.md` describes each command and where these promises end; the rest is tested by `cedar_test_cli`.
 #![tactic(auto)]
 
@@ -50,13 +53,18 @@ mod visible;
 mod warnings;
 
 pub use asked::{Asked, Source, Step, Way};
-pub use batch::authorize_each;
+pub use batch::{authorize_each, refusal_document};
 pub use cedar_policy_core::authorizer::{Decision, ErrorHandling};
-pub use decisions::{Printed, authorize, status_of};
+pub use decisions::{Printed, authorize, line_of, push_visible_name, status_of};
 pub use evaluations::evaluate_expression;
 pub use explanations::authorize_and_explain;
+pub use limits::{levels_within, text_limit};
 pub use partial::partially_authorize;
-pub use policies::{check_format, check_policies, format_policies};
-pub use refusal::{Refusal, refuse_with_line};
+pub use policies::{check_format, check_policies, format_policies, push_name, read_over, with_id};
+pub use reading::whole_request;
+pub use refusal::{Refusal, refuse_with_line, unread_json};
+pub use stages::first_stage;
+pub use stores::{Store, given_store};
 pub use strictness::check_strictly;
 pub use translations::translate_to_json;
+pub use warnings::{push_warning, tell_errors, tell_templates};

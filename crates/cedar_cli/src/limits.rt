@@ -14,7 +14,7 @@ pub(crate) const LEVELS: usize = 4000;
 pub(crate) const STEPS: usize = 1000;
 
 /// How many levels the condition of a policy that was read has at most: one more than its clauses.
-pub(crate) fn text_limit() -> usize
+pub fn text_limit() -> usize
     ensures { result ≡ 4001 }
 {
     LEVELS + 1
@@ -28,7 +28,7 @@ pub(crate) fn expression_limit(expr: &Expr, request: &Request, stored: usize) ->
 
 /// How many levels are evaluated where parts may be unknown: as many as are set or, where none are, as many as there
 /// can be, so that no policy meets the limit.
-pub(crate) fn levels_within(limit: Option<usize>) -> usize
+pub fn levels_within(limit: Option<usize>) -> usize
     ensures { result ≡ levels_in limit }
 {
     limit.unwrap_or(usize::MAX)

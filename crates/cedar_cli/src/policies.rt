@@ -41,8 +41,9 @@ pub(crate) fn read(
     }
 }
 
-/// The policies that the text writes, which call functions of these extensions alone.
-pub(crate) fn read_over(
+/// The policies that the text writes, which call functions of these extensions alone. Refused where it can't be read: the
+/// first errors are told, each with its place, and how many more there are.
+pub fn read_over(
     alloc: Global,
     source: Source<'_>,
     extensions: &Extensions<'_>,
@@ -210,8 +211,8 @@ fn is_unreadable(alloc: Global, source: Source<'_>) -> Refusal {
     refuse_with_line(alloc, format!(in alloc; "{name}: a token can't be read"))
 }
 
-/// The policy of this id.
-pub(crate) fn with_id<'a>(policies: &'a PolicySet, id: &PolicyID) -> Option<&'a Policy> {
+/// The policy of this id, if there is one.
+pub fn with_id<'a>(policies: &'a PolicySet, id: &PolicyID) -> Option<&'a Policy> {
     for policy in policies.policies() {
         if policy.id() == id {
             return Some(policy);
@@ -220,8 +221,8 @@ pub(crate) fn with_id<'a>(policies: &'a PolicySet, id: &PolicyID) -> Option<&'a 
     None
 }
 
-/// Writes how the policy is called: by its annotation `id` or, where it has none, by its id.
-pub(crate) fn push_name(alloc: Global, policy: &Policy, out: &mut String) -> Result<(), AllocError>
+/// Writes how the policy is called behind the text: by its annotation `id` or, where it has none, by its id.
+pub fn push_name(alloc: Global, policy: &Policy, out: &mut String) -> Result<(), AllocError>
     ensures { OnOk result
         (string_bytes out.new ≡ string_bytes out.old ++ policy_name (policy_view policy.now)) }
 {

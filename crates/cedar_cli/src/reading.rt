@@ -31,8 +31,9 @@ struct Entries {
     resource: EntityUIDEntry,
 }
 
-/// The request that is asked, each part of which is to be given, but for the context, which is else empty.
-pub(crate) fn whole_request(
+/// The request that is asked, each part of which is to be given, but for the context, which is else empty. Refused where
+/// a part is not given, or what is given can't be read.
+pub fn whole_request(
     alloc: Global,
     asked: &Asked<'_, '_>,
     extensions: &Extensions<'_>,

@@ -132,7 +132,7 @@ fn loc(start: usize, end: usize) -> Option<Loc> {
 /// The refusal of what can't be read as Cedar's JSON: `NAME: $.path: why`, or `NAME: line L, column C: why` of a text
 /// that is no JSON or nests too deep, with what is wrong there, or that has a key twice, which is named.
 #[cold]
-pub(crate) fn unread_json(alloc: Global, source: Source<'_>, error: JsonError) -> Refusal
+pub fn unread_json(alloc: Global, source: Source<'_>, error: JsonError) -> Refusal
     ensures { IsToldFor (IsOfJson error) result }
 {
     let name = source.name;

@@ -111,7 +111,9 @@ fn stages_of<'t>(
     }
 }
 
-fn first_stage(
+/// The response before any step: of these policies, for the request that is asked, where what is not given is unknown,
+/// over this store, by this authorizer, which has the same extensions. Refused where the request can't be read.
+pub fn first_stage(
     alloc: Global,
     authorizer: &Authorizer<'_>,
     policies: &PolicySet,

@@ -30,13 +30,15 @@ pub(crate) struct Given<'a> {
 
 /// A store, and how many levels the highest attribute or tag in it has.
 #[derive(Drop)]
-pub(crate) struct Store {
-    pub(crate) entities: Entities,
-    pub(crate) height: usize,
+pub struct Store {
+    pub entities: Entities,
+    pub height: usize,
 }
 
-/// The store of the entities that are given, each with all its ancestors.
-pub(crate) fn given_store(
+/// The store of the entities that are given, each with all its ancestors; where none are given, that without any. Refused
+/// where the entities can't be read, where parents lead back to an entity, and where they have more ancestors in all than
+/// they may. Those that are left out of entities of which there may be more are told as warnings.
+pub fn given_store(
     alloc: Global,
     asked: &Asked<'_, '_>,
     extensions: &Extensions<'_>,

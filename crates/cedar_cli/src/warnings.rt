@@ -18,11 +18,7 @@ use std::rc::RcStr;
 pub(crate) const MOST: usize = 20;
 
 /// Puts `warning: LINE` behind the others.
-pub(crate) fn push_warning(
-    alloc: Global,
-    line: &str,
-    warnings: &mut String,
-) -> Result<(), AllocError>
+pub fn push_warning(alloc: Global, line: &str, warnings: &mut String) -> Result<(), AllocError>
     ensures { OnOk result ((told : _) × IsWarning line.now told
         × (string_bytes warnings.new ≡ string_bytes warnings.old ++ told)) }
 {
@@ -38,6 +34,26 @@ pub(crate) struct Deciding<'p> {
     pub(crate) places: &'p Places<'p>,
     pub(crate) policies: &'p PolicySet,
     pub(crate) way: Way,
+}
+
+/// Tells why policies of this text erred, each with its place.
+pub fn tell_errors(
+    alloc: Global,
+    source: Source<'_>,
+    policies: &PolicySet,
+    way: Way,
+    errors: &[AuthorizationError],
+    warnings: &mut String,
+) -> Result<(), AllocError> {
+    let places = Places::of(alloc, source)?;
+    let deciding = Deciding {
+        places: &places,
+        policies,
+        way,
+    };
+    let told = push_errors(alloc, deciding, errors, warnings);
+    drop(places);
+    told
 }
 
 /// Puts the errors of policies behind the others, each with its place in the text of the policies.
@@ -88,6 +104,19 @@ fn why(
         push_limit(alloc, deciding.way.limit, &mut why)?;
     }
     Ok(why)
+}
+
+/// Tells of each template, of the policies of this text, that it decides nothing.
+pub fn tell_templates(
+    alloc: Global,
+    source: Source<'_>,
+    templates: &[Policy],
+    warnings: &mut String,
+) -> Result<(), AllocError> {
+    let places = Places::of(alloc, source)?;
+    let told = push_templates(alloc, &places, templates, warnings);
+    drop(places);
+    told
 }
 
 /// Tells of each template that it decides nothing.

@@ -156,5 +156,5 @@ fn context(alloc: Global, hour: i64, address: &str) -> Result<Context, AllocErro
     let mut pairs: BTreeMap<RcStr, Value> = BTreeMap::new(alloc);
     put(alloc, &mut pairs, "hour", Ok(Value::from(hour)))?;
     put(alloc, &mut pairs, "address", text_value(alloc, address))?;
-    Ok(Context::from_values(alloc, pairs))
+    Context::from_values(alloc, pairs)
 }

@@ -1,5 +1,5 @@
 //! Contexts of requests.
-ghost use Rattle.std.specs.Prelude.{◌≡◌, Some, None, option_copied, IfSome, true, length};
+ghost use Rattle.std.specs.Prelude.{◌≡◌, Some, None, option_copied, IfOk, IfSome, true, length};
 
 mod conversions;
 mod copies;
@@ -15,10 +15,10 @@ mod walk;
 use cedar_expressions::Expr;
 use cedar_values::Value;
 use pairs::ContextPairs;
-use std::alloc::Global;
+use std::alloc::{AllocError, Global};
 use std::collections::BTreeMap;
 use std::marker::Model;
-use std::rc::RcStr;
+use std::rc::{Rc, RcStr};
 use values::ContextValues;
 pub use walk::IntoIter;
 
@@ -58,20 +58,18 @@ impl Context {
     pub fn empty(alloc: Global) -> Context
         ensures { context_view result ≡ known_context no_represented_at }
     {
-        Context::from_values(alloc, BTreeMap::new(alloc))
-    }
-
-    /// The context of these attributes with their values. It takes no memory: `alloc` is for the expressions that the
-    /// context is walked as, and for copies. Each copy of this context copies its values once; copies of that copy
-    /// share them, as do those of every context that is made by another call.
-    pub fn from_values(alloc: Global, pairs: BTreeMap<RcStr, Value>) -> Context
-        ensures view { context_view result ≡ known_context (whats_at pairs.entries) }
-        ensures map { context_values result ≡ Some pairs }
-    {
         Context {
-            pairs: ContextPairs::Values(ContextValues::new(pairs)),
+            pairs: ContextPairs::Values(ContextValues::new(BTreeMap::new(alloc))),
             alloc,
         }
+    }
+
+    /// The context of these attributes with their values, which its copies share. Out of memory is an `AllocError`.
+    pub fn from_values(alloc: Global, pairs: BTreeMap<RcStr, Value>) -> Result<Context, AllocError>
+        ensures view { IfOk result (λ c. context_view c ≡ known_context (whats_at pairs.entries)) }
+        ensures map { IfOk result (λ c. context_values c ≡ Some pairs) }
+    {
+        Ok(Context::from_shared_values(alloc, Rc::new(alloc, pairs)?))
     }
 
     /// How many attributes the context has.

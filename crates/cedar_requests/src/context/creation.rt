@@ -1,11 +1,11 @@
 //! How contexts are made of restricted expressions.
-ghost use Rattle.std.specs.Prelude.{◌≡◌, ◌≢◌, ◌≤◌, true, false, IfOk, IfErr};
+ghost use Rattle.std.specs.Prelude.{◌≡◌, ◌≢◌, ◌≤◌, true, false, Some, IfOk, IfErr};
 ghost use Rattle.cedar_model.specs.Terms.{record_of};
 ghost use Rattle.cedar_model.specs.Values.{record_represented};
-ghost use Rattle.cedar_model.specs.Shapes.{is_restricted};
+ghost use Rattle.cedar_model.specs.Shapes.{is_restricted, are_restricted_at, have_unknown_at};
 ghost use Rattle.cedar_model.specs.Failures.{value};
 ghost use Rattle.cedar_model.specs.Failures as model;
-ghost use Rattle.cedar_model.specs.Settings.{Setting, known_context};
+ghost use Rattle.cedar_model.specs.Settings.{Setting, known_context, residual_context};
 ghost use Rattle.cedar_model.specs.Rules.{Meets};
 ghost use Rattle.cedar_model.specs.Agreement.{height};
 ghost use Rattle.cedar_model.specs.Restricted.{IsSoundPart};
@@ -18,6 +18,7 @@ ghost use Rattle.cedar_restricted.specs.Views.{borrowed_term, borrowed_loc, pair
 ghost use Rattle.cedar_restricted.specs.Parts.{HasKeys, count, answered_locs};
 ghost use Rattle.cedar_restricted.specs.declared.whole.Whole.TheVariants.{Record};
 ghost use Rattle.cedar_requests.specs.Contexts.{context_view, context_part_value, context_pairs, context_locs};
+ghost use Rattle.cedar_requests.specs.Contexts.{context_values};
 ghost use Rattle.cedar_requests.specs.Contexts.{residual_fields, value_locs};
 ghost use Rattle.cedar_requests.specs.Substitutions.{context_answer, IsRecordOf, IsRestrictedRecord};
 ghost use Rattle.cedar_requests.specs.declared.context.pairs.ContextPairs.TheVariants.{Residual};
@@ -87,15 +88,29 @@ impl Context {
         }
     }
 
-    // The context of these values, which its copies share.
-    pub(super) fn of_shared(alloc: Global, values: Rc<BTreeMap<RcStr, Value>>) -> Context
+    /// The context of these attributes with their values, which whoever else holds them and its copies share. It takes
+    /// no memory: `alloc` is for the expressions that the context is walked as.
+    pub fn from_shared_values(alloc: Global, values: Rc<BTreeMap<RcStr, Value>>) -> Context
         ensures view { context_view result ≡ known_context (whats_at values.value.entries) }
+        ensures map { context_values result ≡ Some values.value }
         ensures places { context_locs result ≡ value_locs values.value }
     {
         Context {
             pairs: ContextPairs::Values(ContextValues::of_shared(values)),
             alloc,
         }
+    }
+
+    /// The context of these expressions under their names, of which one or more hold an unknown. They are restricted:
+    /// literals, unknowns, sets, records and calls of extension functions alone. It takes no memory: `alloc` is for the
+    /// record that the context is walked as.
+    pub fn from_residual(alloc: Global, pairs: BTreeMap<RcStr, Expr>) -> Context
+        requires restricted { are_restricted_at (fields_view pairs.entries) ≡ true }
+        requires unknown { have_unknown_at (fields_view pairs.entries) ≡ true }
+        ensures { context_view result ≡ residual_context (fields_view pairs.entries) }
+    {
+        let residual = ResidualPairs::new(pairs);
+        Context::of_residual(alloc, residual)
     }
 
     // The context of these pairs, of which one or more hold an unknown.
@@ -172,7 +187,7 @@ fn of_part(alloc: Global, part: PartialValue) -> Result<Context, AllocError>
     ensures { IfOk result (λ c. context_part_value c ≡ partial_view part) }
 {
     match part {
-        PartialValue::Value(value) => Ok(Context::of_shared(alloc, values_in(value)?)),
+        PartialValue::Value(value) => Ok(Context::from_shared_values(alloc, values_in(value)?)),
         PartialValue::Residual(residual) => Ok(Context::of_residual(alloc, pairs_of(residual)?)),
     }
 }
@@ -192,7 +207,7 @@ pub(super) fn of_answers(
     match answers {
         Answers::Values(values) => {
             let values = map_under(alloc, keys, values)?;
-            Ok(Context::of_shared(alloc, Rc::new(alloc, values)?))
+            Ok(Context::from_shared_values(alloc, Rc::new(alloc, values)?))
         }
         Answers::Mixed(mixed) => {
             let pairs = map_under(alloc, keys, mixed.into_exprs())?;

@@ -28,7 +28,7 @@ impl Context {
         ensures refused { IfErr result (IsRefusalOfNamed pairs.entry.items) }
     {
         let values = values_of(alloc, pairs)?;
-        Ok(Context::of_shared(alloc, Rc::new(alloc, values)?))
+        Ok(Context::from_shared_values(alloc, Rc::new(alloc, values)?))
     }
 }
 

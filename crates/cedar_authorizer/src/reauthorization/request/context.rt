@@ -73,11 +73,11 @@ fn context_with(
     }
 }
 
-// The context of a copy of these values.
-fn context_of(alloc: Global, pairs: &BTreeMap<RcStr, Value>) -> Result<Context, AllocError>
-    ensures { IfOk result (λ c. context_view c ≡ known_context (whats_at pairs.now.entries)) }
+// The context of these values, which it shares.
+fn context_of(alloc: Global, pairs: &Rc<BTreeMap<RcStr, Value>>) -> Result<Context, AllocError>
+    ensures { IfOk result (λ c. context_view c ≡ known_context (whats_at pairs.now.value.entries)) }
 {
-    Ok(Context::from_values(alloc, pairs.clone()?))
+    Ok(Context::from_shared_values(alloc, pairs.clone()?))
 }
 
 // The values of the record, if the value is one.

@@ -31,18 +31,18 @@ new-requires-in-Mixed-clause-unknown c =
 pub returns-in_ok-new-in-Values-clause-view : goal.returns-in_ok-new-in-Values-clause-view
 returns-in_ok-new-in-Values-clause-view c =
     let ks = c.args.keys in
-    let r = c.of_shared.result in
+    let r = c.from_shared_values.result in
     subst (λ a. IsRecordOf ks a r) (sym c.in-Values.is)
     (values_made ks c.in-Values.values c.in_ok-values-in-Values.values r
     (subst (λ a. HasKeys (wholes.Record ks) (count a)) c.in-Values.is c.requires.keys) c.in_ok-values-in-Values.ensures
-    (c.of_shared.ensures.view
+    (c.from_shared_values.ensures.view
     ∙ ap (λ (m : ValueMap). known_context (whats_at m.entries)) c.in_ok-new-in-Values.ensures.ok))
 
 pub returns-in_ok-new-in-Values-clause-places : goal.returns-in_ok-new-in-Values-clause-places
 returns-in_ok-new-in-Values-clause-places c =
     let ks = c.args.keys in
-    subst (λ a. context_locs c.of_shared.result ≡ answered_locs a) (sym c.in-Values.is)
-    (c.of_shared.ensures.places ∙ ap value_locs c.in_ok-new-in-Values.ensures.ok
+    subst (λ a. context_locs c.from_shared_values.result ≡ answered_locs a) (sym c.in-Values.is)
+    (c.from_shared_values.ensures.places ∙ ap value_locs c.in_ok-new-in-Values.ensures.ok
     ∙ values_placed ks c.in-Values.values c.in_ok-values-in-Values.values
     (subst (λ a. HasKeys (wholes.Record ks) (count a)) c.in-Values.is c.requires.keys) c.in_ok-values-in-Values.ensures)
 

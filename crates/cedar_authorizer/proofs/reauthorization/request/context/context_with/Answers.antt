@@ -19,7 +19,7 @@ pub returns-in_ok-context_of-in-None-context : goal.returns-in_ok-context_of-in-
 returns-in_ok-context_of-in-None-context c =
     subst (λ o. Ok (context_given (Some c.in_ok-context_of-in-None-context.field-0))
     ≡ context_by c.args.value.now.what (context_given (option_copied o))) (sym c.in-None-context.is)
-    (ap Ok (rw c.deref.ensures at c.in_ok-context_of-in-None-context.ensures)
+    (ap Ok c.in_ok-context_of-in-None-context.ensures
     ∙ sym (by_record _ _ (sym c.in-Some.ensures)))
 
 pub returns-in_ok-value_is_wrong-in-None : goal.returns-in_ok-value_is_wrong-in-None
