@@ -57,5 +57,6 @@ fn add_copy(uid: &EntityUID, uids: &mut Vec<EntityUID>) -> Result<(), AllocError
     ensures { OnOk result (map uid_name uids.new.items ≡ map uid_name uids.old.items ++ uid_name uid.now ∷ []) }
 {
     let copy = uid.clone()?;
-    add_last(uids, copy)
+    add_last(uids, copy)?;
+    Ok(())
 }

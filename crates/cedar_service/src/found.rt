@@ -41,7 +41,8 @@ fn add_text(
         ≡ map string_bytes texts.old.items ++ found_text part (uid_name uid.now) ∷ []) }
 {
     let text = text_of(alloc, part, uid)?;
-    add_last(texts, text)
+    add_last(texts, text)?;
+    Ok(())
 }
 
 fn text_of(alloc: Global, part: Part, uid: &EntityUID) -> Result<String, AllocError>

@@ -15,15 +15,15 @@ pub(crate) fn version_of(
 ) -> Result<String, AllocError>
     ensures { IfOk result (λ s. string_bytes s ≡ version_text policies.now entities.now) }
 {
-    hex::encode(alloc, digest_of(policies, entities))
+    hex::encode(alloc, digest_of(policies.as_bytes(), entities.as_bytes()))
 }
 
-fn digest_of(policies: &str, entities: &str) -> [u8; 32]
+fn digest_of(policies: &[u8], entities: &[u8]) -> [u8; 32]
     ensures { result ≡ sha256 ((policies.now ++ 0 ∷ []) ++ entities.now) }
 {
     let mut hasher = Sha256::new();
-    hasher.update(policies.as_bytes());
+    hasher.update(policies);
     hasher.update([0_u8]);
-    hasher.update(entities.as_bytes());
+    hasher.update(entities);
     hasher.finalize()
 }
