@@ -32,8 +32,7 @@ pub(crate) fn command<'a>(alloc: Global) -> Result<Command<'a>, AllocError> {
         .arg(file(alloc, "entities", "The entities, in Cedar's JSON"))?
         .arg(option(alloc, "url", "URL", url))?
         .arg(option(alloc, "page-size", "COUNT", page_size).value_parser(ValueParser::Unsigned(
-            1,
-            1_000_000,
+            1, 1_000_000,
         )))?
         .arg(option(alloc, "max-body", "BYTES", max_body).value_parser(ValueParser::Unsigned(
             0,

@@ -3,7 +3,7 @@
 ghost use Rattle.std.specs.Prelude.{◌≡◌, ◌∷◌, [], ◌++◌, option_map, IfOk, OnOk, string_bytes};
 ghost use Rattle.json.specs.Json.{string};
 ghost use Rattle.cedar_json_writer.specs.Trees.{json_view, members_seen};
-ghost use Rattle.cedar_serve.specs.Metadata.{metadata_json, metadata_text, searches};
+ghost use Rattle.cedar_serve.specs.Metadata.{metadata_json, metadata_text};
 
 use cedar_json_writer::{JsonValue, put_member, text_to_json};
 use std::alloc::{AllocError, Global};
@@ -48,38 +48,28 @@ fn metadata_json(alloc: Global, url: &str) -> Result<JsonValue, AllocError>
         "/access/v1/evaluations",
         &mut members,
     )?;
-    put_searches(alloc, url, &mut members)?;
-    Ok(JsonValue::Object(members))
-}
-
-fn put_searches(
-    alloc: Global,
-    url: &str,
-    members: &mut Vec<(RcStr, JsonValue)>,
-) -> Result<(), AllocError>
-    ensures { OnOk result (members_seen members.new.items ≡ members_seen members.old.items ++ searches url.now) }
-{
     put_endpoint(
         alloc,
         "search_subject_endpoint",
         url,
         "/access/v1/search/subject",
-        members,
+        &mut members,
     )?;
     put_endpoint(
         alloc,
         "search_action_endpoint",
         url,
         "/access/v1/search/action",
-        members,
+        &mut members,
     )?;
     put_endpoint(
         alloc,
         "search_resource_endpoint",
         url,
         "/access/v1/search/resource",
-        members,
-    )
+        &mut members,
+    )?;
+    Ok(JsonValue::Object(members))
 }
 
 // Where this path is of a service at this URL.
