@@ -6,7 +6,7 @@ mod Exact
 mod Composed
 mod Responding
 mod Listed
-mod Searching
+mod Unfound
 mod Records
 mod Bare
 mod Named

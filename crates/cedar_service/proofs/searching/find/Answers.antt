@@ -3,7 +3,7 @@ use Rattle.cedar_extensions.specs.Extensions.{extensions_view, calls_of}
 use Rattle.cedar_service.specs.Faults.{IsFault}
 use Rattle.cedar_service.specs.Searched.{IsPageFor, IsUnfound, not_known}
 use Rattle.cedar_service.proofs.Composed.{of_ok}
-use Rattle.cedar_service.proofs.Searching.{unfound_as}
+use Rattle.cedar_service.proofs.Unfound.{unfound_as}
 use Rattle.cedar_service.proofs.searching.find.Goals as goal
 
 pub returns-else-has_known_context : goal.returns-else-has_known_context

@@ -6,7 +6,7 @@ use Rattle.cedar_search.specs.declared.searches.Part.{Part}
 use Rattle.cedar_service.specs.Asked.{IsAsked, IsUnasked}
 use Rattle.cedar_service.specs.Searched.{sample, IsPageFor, IsUnfound, IsUnfoundAs, IsFoundWith, searched, not_searched}
 use Rattle.cedar_service.proofs.Composed.{of_ok}
-use Rattle.cedar_service.proofs.Searching.{unfound_as}
+use Rattle.cedar_service.proofs.Unfound.{unfound_as}
 use Rattle.cedar_service.proofs.searching.search_with.Goals as goal
 
 pub returns-in-Ok : goal.returns-in-Ok
