@@ -20,4 +20,4 @@ returns-clause-names c =
     ∙ ap (λ (us : List EntityUID). copied ++ map uid_name us) (sym c.in-None.ensures.steps.0) ∙ c.uids.invariant
 
 pub returns-clause-tied : goal.returns-clause-tied
-returns-clause-tied c = IsDistinct-from_sorted cmp-value.it (keys c.args.stored.now) c.keys-uid-iterator.ensures.ordered
+returns-clause-tied c = IsDistinct-from_sorted cmp-value.it (keys c.args.stored.now) c.keys-uid-items.ensures.ordered
