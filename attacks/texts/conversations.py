@@ -8,6 +8,7 @@ Decisions, reasons and which policies err come from `evaluator.py` over the poli
 `cedar_reader.py` and `json_texts.py` read; where an extension is called the reasons stand beside the request. Status, fields, bodies
 and what is wrong with a request stand beside it, by docs/SERVING.md and RFC 9112. Nothing is taken from what the program answers.
 """
+import hashlib
 import json
 import os
 import random
@@ -23,7 +24,9 @@ REASONS = {200: "OK", 400: "Bad Request", 404: "Not Found", 405: "Method Not All
            431: "Request Header Fields Too Large", 501: "Not Implemented"}
 EVALUATION, EVALUATIONS, AUTHORIZE, HEALTH = "/access/v1/evaluation", "/access/v1/evaluations", "/v1/authorize", "/healthz"
 METADATA = "/.well-known/authzen-configuration"
+SEARCH = {part: f"/access/v1/search/{part}" for part in ("subject", "action", "resource")}
 URL = "https://pdp.example.com"
+PAGE_SIZE = 2
 NO_HOUR = "record does not have the attribute `hour`"
 
 
@@ -141,6 +144,7 @@ DEEP = b'{"subject":' + b"[" * 129 + b"]" * 129 + b"}"
 NO_POST = lambda **more: wrong("$", "there is POST alone", 405, allow="POST", **more)
 NO_GET = lambda **more: wrong("$", "there are GET and HEAD alone", 405, allow="GET, HEAD", **more)
 METADATA_DUE = {"policy_decision_point": URL, "access_evaluation_endpoint": URL + EVALUATION, "access_evaluations_endpoint": URL + EVALUATIONS}
+METADATA_DUE |= {f"search_{part}_endpoint": URL + path for part, path in SEARCH.items()}
 
 DECISIONS = [
     asks("an editor reads, and owns", ANN, "read", PLAN),
@@ -261,6 +265,108 @@ SEVERAL = [
     not_several("another member", "$", "an unexpected member", READS | {"evaluation": MIXED}),
     ("several with GET", request("GET", EVALUATIONS), NO_POST()),
 ]
+
+# ---- searches
+
+VERSION = hashlib.sha256(read("documents.cedar") + b"\0" + read("documents.json")).hexdigest()
+# The candidates of each search: the entities of the store, by their types and then by their ids.
+STORED = sorted((it["uid"]["type"], it["uid"]["id"]) for it in json.loads(read("documents.json")))
+
+
+def search(part, known, context=None, token=None, **more):
+    """A search for the part, of which the others are known: a subject and a resource by type and id, an action by name."""
+    body = {"subject": None, "action": None, "resource": None}
+    for name, it in known.items():
+        body[name] = {"name": it} if name == "action" else {"type": it} if isinstance(it, str) else said(it)
+    body = {k: v for k, v in body.items() if v is not None}
+    body |= {} if context is None else {"context": context}
+    body |= {} if token is None else {"page": {"token": token}}
+    return request("POST", SEARCH[part], body | more)
+
+
+def permitted(part, known, context, candidate):
+    """Whether the request with this candidate is allowed, if the candidate is of the type."""
+    type_name = "Action" if part == "action" else known[part]
+    if candidate[0] != type_name:
+        return False
+    full = known | {part: candidate[1] if part == "action" else candidate}
+    return response(full["subject"], full["action"], full["resource"], context or {})["decision"] == "allow"
+
+
+def page(part, known, context, after):
+    """What is due to the page behind so many candidates: what is found, and where the next one begins."""
+    found, place = [], after
+    while place < len(STORED):
+        if len(found) == PAGE_SIZE:
+            return found, f"{VERSION}-{place}"
+        if permitted(part, known, context, STORED[place]):
+            found.append(STORED[place])
+        place += 1
+    return found, ""
+
+
+def pages(what, part, known, context=None, **more):
+    """Each page of a search, from the first to the last."""
+    out, token, number = [], None, 1
+    while token != "":
+        found, after = page(part, known, context, int(token.split("-")[1]) if token else 0)
+        results = [{"name": it[1]} if part == "action" else said(it) for it in found]
+        out.append((f"{what}, page {number}", search(part, known, context, token, **more),
+                    due(200, {"results": results, "page": {"next_token": after}})))
+        token, number = after, number + 1
+    return out
+
+
+def not_searched(what, part, path, reason, known, **more):
+    return (what, search(part, known, **more), wrong(path, reason))
+
+
+BY_ANN = {"subject": ANN, "action": "read", "resource": "Document"}
+OF_PLAN = {"subject": "User", "action": "read", "resource": PLAN}
+WITH_PLAN = {"subject": ANN, "resource": PLAN}
+NO_TOKEN = ("$.page.token", "not a token of this version")
+SEARCHES = [
+    *pages("what ann may read", "resource", BY_ANN),
+    *pages("what an auditor may read", "resource", BY_ANN, {"role": "auditor"}),
+    *pages("what bob may read", "resource", BY_ANN | {"subject": BOB}),
+    *pages("what one may read of whom nothing is stored", "resource", BY_ANN | {"subject": EVE}),
+    *pages("resources of a type of which there is none", "resource", BY_ANN | {"resource": "Folder"}),
+    *pages("who may read the plan", "subject", OF_PLAN),
+    *pages("who may print the menu by day", "subject", OF_PLAN | {"action": "print", "resource": MENU}, {"hour": 9}),
+    *pages("who may read what is sealed", "subject", OF_PLAN | {"resource": VAULT}),
+    *pages("what ann may do", "action", WITH_PLAN),
+    *pages("what bob may do", "action", WITH_PLAN | {"subject": BOB}, {"hour": 9}),
+    *pages("an empty page asks for the first", "resource", BY_ANN | {"subject": BOB}, page={}),
+    ("an id is not looked at", request("POST", SEARCH["resource"], evaluation(BOB, "read", PLAN)),
+     due(200, {"results": [said(it) for it in page("resource", BY_ANN | {"subject": BOB}, None, 0)[0]],
+               "page": {"next_token": page("resource", BY_ANN | {"subject": BOB}, None, 0)[1]}})),
+    not_searched("a token of another version", "resource", *NO_TOKEN, BY_ANN, token=VERSION[:-1] + "x-1"),
+    not_searched("a token behind the last", "resource", *NO_TOKEN, BY_ANN, token=f"{VERSION}-{len(STORED)}"),
+    not_searched("a token with a zero before", "resource", *NO_TOKEN, BY_ANN, token=f"{VERSION}-01"),
+    not_searched("a token with a sign", "resource", *NO_TOKEN, BY_ANN, token=f"{VERSION}-+1"),
+    not_searched("a token without a number", "resource", *NO_TOKEN, BY_ANN, token=f"{VERSION}-"),
+    not_searched("an empty token", "resource", *NO_TOKEN, BY_ANN, token=""),
+    not_searched("a number alone", "resource", *NO_TOKEN, BY_ANN, token="1"),
+    not_searched("a token that is a number", "resource", "$.page.token", "not a string", BY_ANN, token=1),
+    not_searched("another member of the page", "resource", "$.page", "an unexpected member", BY_ANN, page={"limit": 1}),
+    not_searched("a page that is no object", "resource", "$.page", "not an object", BY_ANN, page=1),
+    not_searched("no type", "subject", "$.subject.type", "missing", OF_PLAN, subject={}),
+    not_searched("a type that is no name", "resource", "$.resource.type", "not a name", BY_ANN | {"resource": "a b"}),
+    not_searched("a type that is no name, of a subject", "subject", "$.subject.type", "not a name", OF_PLAN | {"subject": ""}),
+    not_searched("no subject", "action", "$.subject", "missing", {"resource": PLAN}),
+    not_searched("an action where actions are searched for", "action", "$", "an unexpected member", BY_ANN),
+    not_searched("no action", "resource", "$.action", "missing", {"subject": ANN, "resource": "Document"}),
+    not_searched("no id of the resource", "subject", "$.resource.id", "missing", OF_PLAN | {"resource": "Document"}),
+    not_searched("properties", "subject", "$.subject.properties", "properties are not supported", OF_PLAN,
+                 subject={"type": "User", "properties": {"a": 1}}),
+    not_searched("null in the context", "subject", "$.context.a", "null is no value", OF_PLAN, context={"a": None}),
+    not_searched("an unknown in the context", "action", "$.context", "an unknown stands in it", WITH_PLAN,
+                 context={"a": {"__extn": {"fn": "unknown", "arg": "a"}}}),
+    ("a search that is no JSON", request("POST", SEARCH["subject"], b"{"), wrong("$", "not JSON")),
+    ("a search that is no object", request("POST", SEARCH["action"], []), wrong("$", "not an object")),
+    ("a search with GET", request("GET", SEARCH["subject"]), NO_POST()),
+    ("a search for what is none", request("POST", "/access/v1/search/context", BY_ANN), unknown()),
+]
 CEDAR = [
     authorizes("Cedar's request", ANN, "read", PLAN, {}),
     authorizes("the same of a guest", BOB, "print", MENU, {"hour": 20}),
@@ -317,7 +423,7 @@ LAST = [
 
 def interleaved():
     """All but the last, in an order that sets good, bad and other ones beside each other."""
-    groups = [list(it) for it in (DECISIONS, WRONG, ENDPOINTS, IDS, CEDAR, FRAMING, SEVERAL)]
+    groups = [list(it) for it in (DECISIONS, WRONG, ENDPOINTS, IDS, CEDAR, FRAMING, SEVERAL, SEARCHES)]
     out = []
     while any(groups):
         for group in groups:

@@ -7,25 +7,23 @@ use Rattle.http_server.specs.declared.response.Response.{Response}
 use Rattle.cedar_endpoints.specs.declared.replies.Reply.{Reply}
 use Rattle.cedar_endpoints.specs.declared.routes.Route.{Route}
 use Rattle.cedar_endpoints.specs.Answers.{IsSent}
-use Rattle.cedar_endpoints.specs.Asked.{Text, Evaluation}
-use Rattle.cedar_endpoints.specs.Several.{Decides}
-use Rattle.cedar_endpoints.specs.Served.{IsReply, asked_route, request_id, IsServed}
+use Rattle.cedar_endpoints.specs.Asked.{Text}
+use Rattle.cedar_endpoints.specs.Served.{Offers, IsReply, asked_route, request_id, IsServed}
 
 on_ok : {A E : Type 0} (P Q : Type 0) → (P → Q) → (r : Result A E) → OnOk r P → OnOk r Q
 on_ok P Q f (Ok a) h = f h
 on_ok P Q f (Err e) h = h
 
-pub served : {A E : Type 0} (decides : Decides Evaluation) (authorizes : Decides Text) (metadata : Option Text)
-    (q : Request (List ℕ)) (route : Route) (body : Text) (reply : Reply) (id : Option FieldValue) (text : Text)
-    (p : Response) (r : Result A E) → route ≡ asked_route q → body ≡ body_of q → id ≡ request_id q
-    → text ≡ string_bytes reply.body → IsReply decides authorizes metadata route body reply
-    → OnOk r (IsSent reply.status id text p) → OnOk r (IsServed decides authorizes metadata q p)
-served decides authorizes metadata q route body reply id text p r same_route same_body same_id same_text due sent =
-    on_ok (IsSent reply.status id text p) (IsServed decides authorizes metadata q p)
+pub served : {A E : Type 0} (s : Offers) (q : Request (List ℕ)) (route : Route) (body : Text) (reply : Reply)
+    (id : Option FieldValue) (text : Text) (p : Response) (r : Result A E) → route ≡ asked_route q → body ≡ body_of q → id ≡ request_id q
+    → text ≡ string_bytes reply.body → IsReply s route body reply
+    → OnOk r (IsSent reply.status id text p) → OnOk r (IsServed s q p)
+served s q route body reply id text p r same_route same_body same_id same_text due sent =
+    on_ok (IsSent reply.status id text p) (IsServed s q p)
     (λ h. record {
       reply = reply;
-      is_due = subst (λ (x : Route). IsReply decides authorizes metadata x (body_of q) reply) same_route
-          (subst (λ (b : Text). IsReply decides authorizes metadata route b reply) same_body due);
+      is_due = subst (λ (x : Route). IsReply s x (body_of q) reply) same_route
+          (subst (λ (b : Text). IsReply s route b reply) same_body due);
       sent = subst (λ (i : Option FieldValue). IsSent reply.status i (string_bytes reply.body) p) same_id
           (subst (λ (t : Text). IsSent reply.status id t p) same_text h);
     }) r sent

@@ -1,5 +1,5 @@
 -- Items, one after another.
-use Rattle.std.proofs.Common.{◌≡◌, List, ℕ, [], ◌∷◌, ◌++◌, ◌+◌, ◌<◌, Bool, true, false, length, drop, get_or, sym, ap, subst, ◌∙◌, append_assoc, refl, ◌==◌}
+use Rattle.std.proofs.Common.{◌≡◌, List, ℕ, [], ◌∷◌, ◌++◌, ◌+◌, ◌<◌, Bool, true, false, length, drop, get_or, sym, ap, subst, ◌∙◌, append_assoc}
 use Rattle.std.proofs.lemmas.List.{drop_more}
 use Rattle.json.specs.Json.{Json, Items, item}
 use Rattle.json.specs.Value.{value_view, items_view}

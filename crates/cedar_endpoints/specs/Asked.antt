@@ -80,10 +80,18 @@ is_evaluation_key k =
     bytes_eq k (codes "subject") || (bytes_eq k (codes "action") || (bytes_eq k (codes "resource")
     || bytes_eq k (codes "context")))
 
+abbrev pub is_action_search_key : Text → Bool
+is_action_search_key k =
+    bytes_eq k (codes "subject") || (bytes_eq k (codes "resource") || (bytes_eq k (codes "context")
+    || bytes_eq k (codes "page")))
+
 abbrev pub knows : Keys → Text → Bool
 knows keys.Evaluation k = is_evaluation_key k
 knows keys.Evaluations k =
     is_evaluation_key k || (bytes_eq k (codes "evaluations") || bytes_eq k (codes "options"))
+knows keys.Search k = is_evaluation_key k || bytes_eq k (codes "page")
+knows keys.ActionSearch k = is_action_search_key k
+knows keys.Page k = bytes_eq k (codes "token")
 knows keys.Entity k =
     bytes_eq k (codes "type") || (bytes_eq k (codes "id") || bytes_eq k (codes "properties"))
 knows keys.Action k = bytes_eq k (codes "name") || bytes_eq k (codes "properties")

@@ -1,7 +1,10 @@
 pub mod Routes
 pub mod Answers
 pub mod Asked
+pub mod Searches
 pub mod Replies
 pub mod Documents
 pub mod Several
+pub mod Tokens
+pub mod Found
 pub mod Served

@@ -2,6 +2,7 @@
 use Rattle.std.specs.Prelude.{◌||◌, if◌then◌else◌, List, ℕ, bytes_eq, codes}
 use Rattle.cedar_endpoints.specs.declared.routes.Route.{Route}
 use Rattle.cedar_endpoints.specs.declared.routes.Route.TheVariants as routes
+use Rattle.cedar_endpoints.specs.declared.searches.Sought.TheVariants as soughts
 
 -- this route, for a `POST`
 abbrev pub posted : Route → List ℕ → Route
@@ -16,7 +17,10 @@ abbrev pub route_of : List ℕ → List ℕ → Route
 route_of m p =
     if bytes_eq p (codes "/access/v1/evaluation") then posted routes.Evaluation m else (
     if bytes_eq p (codes "/access/v1/evaluations") then posted routes.Evaluations m else (
+    if bytes_eq p (codes "/access/v1/search/subject") then posted (routes.Search soughts.Subject) m else (
+    if bytes_eq p (codes "/access/v1/search/action") then posted (routes.Search soughts.Action) m else (
+    if bytes_eq p (codes "/access/v1/search/resource") then posted (routes.Search soughts.Resource) m else (
     if bytes_eq p (codes "/v1/authorize") then posted routes.Authorize m else (
     if bytes_eq p (codes "/healthz") then shown routes.Health m else (
     if bytes_eq p (codes "/.well-known/authzen-configuration") then shown routes.Metadata m else
-    routes.Unknown))))
+    routes.Unknown)))))))

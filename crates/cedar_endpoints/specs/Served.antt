@@ -1,5 +1,5 @@
 -- What a service answers to requests over HTTP, whatever decides behind it.
-use Rattle.std.specs.Prelude.{List, ℕ, Option, Some, None, Err, Ok, codes, string_bytes}
+use Rattle.std.specs.Prelude.{List, ℕ, Option, Some, None, codes, string_bytes}
 use Rattle.std.specs.Str.{IsUtf8}
 use Rattle.json.specs.Json.{Json}
 use Rattle.http.specs.declared.request.Request.{Request}
@@ -18,21 +18,23 @@ use Rattle.cedar_endpoints.specs.Answers.{IsSent}
 use Rattle.cedar_endpoints.specs.declared.service.Asks.{Asks}
 use Rattle.cedar_endpoints.specs.declared.service.Asks.TheVariants as asks
 use Rattle.cedar_endpoints.specs.Asked.{Text, Evaluation, evaluation_said}
+use Rattle.cedar_endpoints.specs.Found.{Finder, IsSearched}
 use Rattle.cedar_endpoints.specs.Documents.{IsRepliedTo, whole}
 use Rattle.cedar_endpoints.specs.Replies.{Replies, IsFault, error_text}
 use Rattle.cedar_endpoints.specs.Several.{Decides, IsDecided, AreEvaluated}
 use Rattle.cedar_endpoints.specs.Routes.{route_of}
 
--- ---- AuthZEN's evaluation
+-- ---- AuthZEN's documents
 
 -- the document's evaluation is decided, if it says one
 abbrev pub IsEvaluated : Decides Evaluation → Json → Reply → Type 0
 IsEvaluated decides j r = IsDecided decides (evaluation_said j) r
 
--- the same, or all evaluations of a document that may ask several
-abbrev pub IsEvaluatedAs : Asks → Decides Evaluation → Json → Reply → Type 0
-IsEvaluatedAs asks.One = IsEvaluated
-IsEvaluatedAs asks.Several = AreEvaluated
+-- the same, or all evaluations of a document that may ask several, or a page of what is searched for
+abbrev pub IsAskedAs : Asks → Decides Evaluation → Finder → Json → Reply → Type 0
+IsAskedAs asks.One decides searches = IsEvaluated decides
+IsAskedAs asks.Several decides searches = AreEvaluated decides
+IsAskedAs (asks.Part sought) decides searches = IsSearched searches sought
 
 -- ---- Cedar's own request
 
@@ -53,18 +55,29 @@ abbrev pub IsMetadata : Option Text → Reply → Type 0
 IsMetadata None = IsFault statuses.NotFound (whole (codes "nothing is here"))
 IsMetadata (Some text) = Replies statuses.Ok text
 
-abbrev pub IsReply : Decides Evaluation → Decides Text → Option Text → Route → Text → Reply → Type 0
-IsReply decides authorizes metadata routes.Evaluation body r = IsRepliedTo (IsEvaluated decides) body r
-IsReply decides authorizes metadata routes.Evaluations body r = IsRepliedTo (AreEvaluated decides) body r
-IsReply decides authorizes metadata routes.Authorize body r = IsAuthorized authorizes body r
-IsReply decides authorizes metadata routes.Health body r = Replies statuses.Ok (codes "{\"status\":\"ok\"}") r
-IsReply decides authorizes metadata routes.Metadata body r = IsMetadata metadata r
-IsReply decides authorizes metadata routes.PostOnly body r =
-    IsFault statuses.PostOnly (whole (codes "there is POST alone")) r
-IsReply decides authorizes metadata routes.GetOnly body r =
-    IsFault statuses.GetOnly (whole (codes "there are GET and HEAD alone")) r
-IsReply decides authorizes metadata routes.Unknown body r =
-    IsFault statuses.NotFound (whole (codes "nothing is here")) r
+-- what a service has to offer: its decisions of evaluations and of Cedar's own requests, its searches, and where its
+-- endpoints are
+pub record Offers : Type 1 where
+  pub decides : Decides Evaluation
+  pub authorizes : Decides Text
+  pub searches : Finder
+  pub metadata : Option Text
+
+abbrev pub offered : Decides Evaluation → Decides Text → Finder → Option Text → Offers
+offered decides authorizes searches metadata =
+    record { decides = decides; authorizes = authorizes; searches = searches; metadata = metadata }
+
+-- what is replied at an endpoint to a body
+abbrev pub IsReply : Offers → Route → Text → Reply → Type 0
+IsReply s routes.Evaluation body r = IsRepliedTo (IsEvaluated s.decides) body r
+IsReply s routes.Evaluations body r = IsRepliedTo (AreEvaluated s.decides) body r
+IsReply s (routes.Search sought) body r = IsRepliedTo (IsSearched s.searches sought) body r
+IsReply s routes.Authorize body r = IsAuthorized s.authorizes body r
+IsReply s routes.Health body r = Replies statuses.Ok (codes "{\"status\":\"ok\"}") r
+IsReply s routes.Metadata body r = IsMetadata s.metadata r
+IsReply s routes.PostOnly body r = IsFault statuses.PostOnly (whole (codes "there is POST alone")) r
+IsReply s routes.GetOnly body r = IsFault statuses.GetOnly (whole (codes "there are GET and HEAD alone")) r
+IsReply s routes.Unknown body r = IsFault statuses.NotFound (whole (codes "nothing is here")) r
 
 -- ---- over HTTP
 
@@ -77,8 +90,7 @@ abbrev pub request_id : Request (List ℕ) → Option FieldValue
 request_id q = get (head_of q).headers (codes "x-request-id")
 
 -- the response is the reply that is due, whole, and no other
-pub record IsServed (decides : Decides Evaluation) (authorizes : Decides Text) (metadata : Option Text)
-    (q : Request (List ℕ)) (p : Response) : Type 0 where
+pub record IsServed (s : Offers) (q : Request (List ℕ)) (p : Response) : Type 0 where
   pub reply : Reply
-  pub is_due : IsReply decides authorizes metadata (asked_route q) (body_of q) reply
+  pub is_due : IsReply s (asked_route q) (body_of q) reply
   pub sent : IsSent reply.status (request_id q) (string_bytes reply.body) p

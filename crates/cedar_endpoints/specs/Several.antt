@@ -12,7 +12,7 @@ use Rattle.cedar_endpoints.specs.declared.replies.Reply.{Reply}
 use Rattle.cedar_endpoints.specs.declared.semantics.Semantic.{Semantic}
 use Rattle.cedar_endpoints.specs.declared.semantics.Semantic.TheVariants as semantics
 use Rattle.cedar_endpoints.specs.declared.several.Several as lists
-use Rattle.cedar_endpoints.specs.Asked.{Text, Fault, Said, Evaluation, wrong, unless, and_then, object_fault, text_in, evaluation_of}
+use Rattle.cedar_endpoints.specs.Asked.{Text, Said, Evaluation, wrong, unless, and_then, object_fault, text_in, evaluation_of}
 use Rattle.cedar_endpoints.specs.Replies.{Replies, IsFault, IsOutcome, decision_text, error_text, fault_json}
 
 -- ---- what is asked

@@ -42,6 +42,12 @@ pub enum Keys {
     Evaluation,
     /// Those, and the ones of several evaluations.
     Evaluations,
+    /// Those of a search for subjects or resources.
+    Search,
+    /// Those of a search for actions.
+    ActionSearch,
+    /// Those of the page that is asked for.
+    Page,
     /// Those of a subject and of a resource.
     Entity,
     /// Those of an action.
@@ -167,7 +173,10 @@ fn member_or<'v, 'a>(key: &str, value: &'v Value<'a>, all: &'v Value<'a>) -> Opt
 
 // ---- parts
 
-fn entity_of<'v, 'a>(part: &'static str, value: Option<&'v Value<'a>>) -> Result<Named<'v>, Fault>
+pub(crate) fn entity_of<'v, 'a>(
+    part: &'static str,
+    value: Option<&'v Value<'a>>,
+) -> Result<Named<'v>, Fault>
     ensures { asked.told asked.named_view result
         ≡ asked.entity_said part.now (option_map (λ v. value_view v.now) value.entry) }
 {
@@ -202,7 +211,7 @@ fn type_and_id<'v>(part: &'static str, value: &'v Value<'_>) -> Result<Named<'v>
     }
 }
 
-fn action_of<'v>(value: Option<&'v Value<'_>>) -> Result<&'v str, Fault>
+pub(crate) fn action_of<'v>(value: Option<&'v Value<'_>>) -> Result<&'v str, Fault>
     ensures { asked.told (λ t. t.now) result
         ≡ asked.action_said (option_map (λ v. value_view v.now) value.entry) }
 {
@@ -225,7 +234,9 @@ fn action_in<'v>(value: &'v Value<'_>) -> Result<&'v str, Fault>
     }
 }
 
-fn context_of<'v, 'a>(value: Option<&'v Value<'a>>) -> Result<Option<&'v Value<'a>>, Fault>
+pub(crate) fn context_of<'v, 'a>(
+    value: Option<&'v Value<'a>>,
+) -> Result<Option<&'v Value<'a>>, Fault>
     ensures { asked.told (option_map (λ v. value_view v.now)) result
         ≡ asked.context_said (option_map (λ v. value_view v.now) value.entry) }
 {
@@ -249,7 +260,7 @@ fn context_in<'v, 'a>(value: &'v Value<'a>) -> Result<Option<&'v Value<'a>>, Fau
     }
 }
 
-fn text_of<'v>(
+pub(crate) fn text_of<'v>(
     part: &'static str,
     member: &'static str,
     value: Option<&'v Value<'_>>,
@@ -288,7 +299,7 @@ pub(crate) fn text_in<'v>(
 // ---- shapes
 
 // What is wrong with the shape of an object that may have properties.
-fn shape_fault(keys: Keys, part: &'static str, value: &Value<'_>) -> Option<Fault>
+pub(crate) fn shape_fault(keys: Keys, part: &'static str, value: &Value<'_>) -> Option<Fault>
     ensures { option_map asked.fault_view result ≡ asked.shape_fault keys part.now (value_view value.now) }
 {
     match object_fault(keys, part, value) {
@@ -343,6 +354,9 @@ fn knows(keys: Keys, key: &str) -> bool
     match keys {
         Keys::Evaluation => is_evaluation_key(key),
         Keys::Evaluations => is_evaluation_key(key) || key == "evaluations" || key == "options",
+        Keys::Search => is_evaluation_key(key) || key == "page",
+        Keys::ActionSearch => is_action_search_key(key),
+        Keys::Page => key == "token",
         Keys::Entity => key == "type" || key == "id" || key == "properties",
         Keys::Action => key == "name" || key == "properties",
         Keys::Options => key == "evaluations_semantic",
@@ -353,6 +367,12 @@ fn is_evaluation_key(key: &str) -> bool
     ensures { result ≡ asked.is_evaluation_key key.now }
 {
     key == "subject" || key == "action" || key == "resource" || key == "context"
+}
+
+fn is_action_search_key(key: &str) -> bool
+    ensures { result ≡ asked.is_action_search_key key.now }
+{
+    key == "subject" || key == "resource" || key == "context" || key == "page"
 }
 
 fn properties_fault(part: &'static str, value: Option<&Value<'_>>) -> Option<Fault>

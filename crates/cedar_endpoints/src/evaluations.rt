@@ -217,7 +217,8 @@ fn item_text(alloc: Global, is_allowed: bool, context: &str) -> Result<Answer, A
 
 // ---- the list
 
-fn join_texts(alloc: Global, texts: &[String]) -> Result<String, AllocError>
+/// The texts, with commas between them. Refuses only if out of memory.
+pub(crate) fn join_texts(alloc: Global, texts: &[String]) -> Result<String, AllocError>
     ensures { IfOk result (λ s. string_bytes s ≡ joined (map string_bytes texts.now)) }
 {
     texts.join(alloc, ",")

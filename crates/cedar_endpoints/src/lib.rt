@@ -4,6 +4,7 @@
 //! - `routes`: which endpoint a method and a path name.
 //! - `asked`: what a document of AuthZEN's evaluation asks: who, what is to be done, with what, in which context; or
 //!   the first thing that is wrong with it, and where.
+//! - `searches`, `tokens`: what a document asks that searches, and the tokens of pages. `found`: what it is answered.
 //! - `several`, `semantics`: what a document with several evaluations asks, and where it stops. `evaluations`: their
 //!   answers.
 //! - `decider`: what decides, as a trait. `service`: the service over HTTP that asks it.
@@ -21,16 +22,20 @@ mod asked;
 mod decider;
 mod documents;
 mod evaluations;
+mod found;
 mod replies;
 mod routes;
+mod searches;
 mod semantics;
 mod service;
 mod several;
+mod tokens;
 
 pub use answers::Status;
 pub use asked::{Evaluation, Fault, Keys, Named, read_evaluation};
 pub use decider::Decider;
-pub use replies::{Outcome, Reply, fault_json};
+pub use replies::{Finding, Outcome, Reply, fault_json};
 pub use routes::{Route, route_of};
+pub use searches::{PageSearch, Parts, Search, Sought, read_search};
 pub use semantics::Semantic;
 pub use service::Decisions;

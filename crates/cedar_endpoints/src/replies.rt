@@ -18,6 +18,21 @@ pub enum Outcome {
     Refused { error: String },
 }
 
+/// A page of what is found, or why nothing is.
+#[derive(Debug, Drop)]
+pub enum Finding {
+    /// Each that is found, as JSON, in order, and behind how many candidates the next page begins: `None` where this page
+    /// is the last.
+    Found {
+        results: Vec<String>,
+        next: Option<usize>,
+    },
+    /// Nothing is found: the error, as JSON.
+    Refused {
+        error: String,
+    },
+}
+
 /// A status, and a JSON text.
 #[derive(Debug, Drop)]
 pub struct Reply {

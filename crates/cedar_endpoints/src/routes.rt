@@ -2,6 +2,8 @@
 ghost use Rattle.std.specs.Prelude.{◌≡◌};
 ghost use Rattle.cedar_endpoints.specs.Routes.{route_of, posted, shown};
 
+use crate::searches::Sought;
+
 /// What a request asks for, by its method and its path.
 #[derive(Clone, Copy, Debug, PartialEq, Eq)]
 pub enum Route {
@@ -9,6 +11,8 @@ pub enum Route {
     Evaluation,
     /// Decisions, as AuthZEN asks for several at once.
     Evaluations,
+    /// What is permitted, as AuthZEN searches for it.
+    Search(Sought),
     /// A decision, as Cedar's JSON asks for it.
     Authorize,
     /// Whether the service answers.
@@ -31,6 +35,12 @@ pub fn route_of(method: &str, path: &str) -> Route
         posted(Route::Evaluation, method)
     } else if path == "/access/v1/evaluations" {
         posted(Route::Evaluations, method)
+    } else if path == "/access/v1/search/subject" {
+        posted(Route::Search(Sought::Subject), method)
+    } else if path == "/access/v1/search/action" {
+        posted(Route::Search(Sought::Action), method)
+    } else if path == "/access/v1/search/resource" {
+        posted(Route::Search(Sought::Resource), method)
     } else if path == "/v1/authorize" {
         posted(Route::Authorize, method)
     } else if path == "/healthz" {

@@ -5,7 +5,8 @@ ghost use Rattle.http_server.specs.Response.{IsBlank};
 ghost use Rattle.cedar_endpoints.specs.Asked.{fault_view};
 ghost use Rattle.json.specs.Value.{value_view};
 ghost use Rattle.cedar_endpoints.specs.Documents.{IsRepliedTo, IsReplyUnread, whole};
-ghost use Rattle.cedar_endpoints.specs.Served.{IsEvaluated, IsEvaluatedAs, IsAuthorized, IsResponded, IsMetadata};
+ghost use Rattle.cedar_endpoints.specs.Found.{finder_of};
+ghost use Rattle.cedar_endpoints.specs.Served.{offered, IsEvaluated, IsAskedAs, IsAuthorized, IsResponded, IsMetadata};
 ghost use Rattle.cedar_endpoints.specs.Served.{IsReply, IsServed};
 
 use crate::answers::{Status, send};
@@ -13,21 +14,25 @@ use crate::asked::{Fault, read_evaluation};
 use crate::decider::Decider;
 use crate::documents::{Unread, parse_json};
 use crate::evaluations::{decide_said, evaluate_all};
+use crate::found::search_value;
 use crate::replies::{Outcome, Reply, faulty, plain, refused};
 use crate::routes::{Route, route_of};
+use crate::searches::Sought;
 use bytes::Bytes;
 use http::Request;
 use http_server::{Response, Service};
 use json::{Scratch, Value};
 use std::alloc::{AllocError, Global};
 
-// How many evaluations a document may ask.
+// What a document may ask.
 #[derive(Clone, Copy)]
 pub(crate) enum Asks {
-    // One.
+    // One evaluation.
     One,
     // One, or a list of several.
     Several,
+    // A part of one, which is searched for.
+    Part(Sought),
 }
 
 /// A service that asks one decider.
@@ -37,13 +42,16 @@ pub struct Decisions<D: Decider> {
     pub decider: D,
     /// AuthZEN's metadata, as JSON; where there are none, that endpoint is not there.
     pub metadata: Option<String>,
+    /// How many a page has at most. With 0 a page is empty, and the next one begins where it does.
+    pub page: usize,
 }
 
 /// Each request is answered by what is due to it alone, and the service stays as it is.
 impl<D: Decider> Service for Decisions<D> {
     ghost answers = { λ before request response after. (after ≡ before)
-        × IsServed (D.decides before.decider) (D.authorizes before.decider)
-        (option_map string_bytes before.metadata) request response };
+        × IsServed (offered (D.decides before.decider) (D.authorizes before.decider)
+        (finder_of (D.finds before.decider) (D.version before.decider) (D.count before.decider) before.page)
+        (option_map string_bytes before.metadata)) request response };
 
     fn call(
         &mut self,
@@ -60,8 +68,9 @@ fn respond<D: Decider>(
     response: &mut Response,
 ) -> Result<(), AllocError>
     requires { IsBlank response.old }
-    ensures { OnOk result (IsServed (D.decides service.now.decider) (D.authorizes service.now.decider)
-        (option_map string_bytes service.now.metadata) request.now response.new) }
+    ensures { OnOk result (IsServed (offered (D.decides service.now.decider) (D.authorizes service.now.decider)
+        (finder_of (D.finds service.now.decider) (D.version service.now.decider) (D.count service.now.decider)
+        service.now.page) (option_map string_bytes service.now.metadata)) request.now response.new) }
 {
     let route = route_of(request.method().as_str(), request.uri().path());
     let reply = reply(service, route, request.body().as_slice())?;
@@ -70,13 +79,15 @@ fn respond<D: Decider>(
 }
 
 fn reply<D: Decider>(service: &Decisions<D>, route: Route, body: &[u8]) -> Result<Reply, AllocError>
-    ensures { IfOk result (IsReply (D.decides service.now.decider) (D.authorizes service.now.decider)
-        (option_map string_bytes service.now.metadata) route body.now) }
+    ensures { IfOk result (IsReply (offered (D.decides service.now.decider) (D.authorizes service.now.decider)
+        (finder_of (D.finds service.now.decider) (D.version service.now.decider) (D.count service.now.decider)
+        service.now.page) (option_map string_bytes service.now.metadata)) route body.now) }
 {
     let alloc = service.alloc;
     match route {
-        Route::Evaluation => evaluate(alloc, &service.decider, Asks::One, body),
-        Route::Evaluations => evaluate(alloc, &service.decider, Asks::Several, body),
+        Route::Evaluation => ask(service, Asks::One, body),
+        Route::Evaluations => ask(service, Asks::Several, body),
+        Route::Search(sought) => ask(service, Asks::Part(sought), body),
         Route::Authorize => authorize(alloc, &service.decider, body),
         Route::Health => plain(alloc, "{\"status\":\"ok\"}"),
         Route::Metadata => metadata(alloc, &service.metadata),
@@ -109,33 +120,28 @@ fn metadata(alloc: Global, metadata: &Option<String>) -> Result<Reply, AllocErro
     }
 }
 
-// ---- AuthZEN's evaluation
+// ---- AuthZEN's documents
 
-fn evaluate<D: Decider>(
-    alloc: Global,
-    decider: &D,
-    asks: Asks,
-    body: &[u8],
-) -> Result<Reply, AllocError>
-    ensures { IfOk result (IsRepliedTo (IsEvaluatedAs asks (D.decides decider.now)) body.now) }
+fn ask<D: Decider>(service: &Decisions<D>, asks: Asks, body: &[u8]) -> Result<Reply, AllocError>
+    ensures { IfOk result (IsRepliedTo (IsAskedAs asks (D.decides service.now.decider)
+        (finder_of (D.finds service.now.decider) (D.version service.now.decider) (D.count service.now.decider)
+        service.now.page)) body.now) }
 {
     match str::from_utf8(body) {
-        Ok(text) => evaluate_text(alloc, decider, asks, text),
-        Err(_) => faulty(alloc, Status::BadRequest, whole("not UTF-8")),
+        Ok(text) => ask_text(service, asks, text),
+        Err(_) => faulty(service.alloc, Status::BadRequest, whole("not UTF-8")),
     }
 }
 
-fn evaluate_text<D: Decider>(
-    alloc: Global,
-    decider: &D,
-    asks: Asks,
-    text: &str,
-) -> Result<Reply, AllocError>
-    ensures { IfOk result (IsRepliedTo (IsEvaluatedAs asks (D.decides decider.now)) text.now) }
+fn ask_text<D: Decider>(service: &Decisions<D>, asks: Asks, text: &str) -> Result<Reply, AllocError>
+    ensures { IfOk result (IsRepliedTo (IsAskedAs asks (D.decides service.now.decider)
+        (finder_of (D.finds service.now.decider) (D.version service.now.decider) (D.count service.now.decider)
+        service.now.page)) text.now) }
 {
+    let alloc = service.alloc;
     let mut scratch = Scratch::new(alloc);
     match parse_json(alloc, text, &mut scratch) {
-        Ok(value) => evaluate_value(alloc, decider, asks, &value),
+        Ok(value) => ask_value(service, asks, &value),
         Err(unread) => reply_unread(alloc, unread),
     }
 }
@@ -156,17 +162,20 @@ fn reply_unread(alloc: Global, unread: Unread) -> Result<Reply, AllocError>
     }
 }
 
-fn evaluate_value<D: Decider>(
-    alloc: Global,
-    decider: &D,
+fn ask_value<D: Decider>(
+    service: &Decisions<D>,
     asks: Asks,
     value: &Value<'_>,
 ) -> Result<Reply, AllocError>
-    ensures { IfOk result (IsEvaluatedAs asks (D.decides decider.now) (value_view value.now)) }
+    ensures { IfOk result (IsAskedAs asks (D.decides service.now.decider)
+        (finder_of (D.finds service.now.decider) (D.version service.now.decider) (D.count service.now.decider)
+        service.now.page) (value_view value.now)) }
 {
+    let alloc = service.alloc;
     match asks {
-        Asks::One => evaluate_one(alloc, decider, value),
-        Asks::Several => evaluate_all(alloc, decider, value),
+        Asks::One => evaluate_one(alloc, &service.decider, value),
+        Asks::Several => evaluate_all(alloc, &service.decider, value),
+        Asks::Part(sought) => search_value(alloc, &service.decider, service.page, sought, value),
     }
 }
 

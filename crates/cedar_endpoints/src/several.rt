@@ -134,7 +134,8 @@ fn items_of<'v, 'a>(list: Option<&'v Value<'a>>) -> Result<Option<&'v Vec<Value<
 }
 
 fn items_in<'v, 'a>(list: &'v Value<'a>) -> Result<Option<&'v Vec<Value<'a>>>, Fault>
-    ensures { told (option_map (λ v. items_view v.now.items)) result ≡ several.items_in (as_array (value_view list.now)) }
+    ensures { told (option_map (λ v. items_view v.now.items)) result
+        ≡ several.items_in (as_array (value_view list.now)) }
 {
     match array(list) {
         Some(items) => Ok(some_items(items)),

@@ -1,5 +1,5 @@
 -- What is sent over one connection, from the texts of policies and entities on.
-use Rattle.std.specs.Prelude.{◌≡◌, ⊤, Result, Ok, Err, Option, option_map, string_bytes}
+use Rattle.std.specs.Prelude.{◌≡◌, ⊤, ℕ, Result, Ok, Err, Option, option_map, string_bytes}
 use Rattle.cedar_model.specs.Terms.{Text}
 use Rattle.http_server.specs.declared.state.Config.{Config}
 use Rattle.http_server.specs.declared.state.State.{State}
@@ -20,11 +20,13 @@ pub record IsServedBy (s : Decisions Engine) (config : Config) (h : History) : T
   pub sent : ∥ IsServed config h ∥₁
 
 -- The same of a service that decides as the policies and the entities do that these texts say, and tells where it is,
--- if that is given.
-pub record IsServedFrom (policies entities : Text) (url : Option Text) (config : Config) (h : History) : Type 0 where
+-- if that is given, and whose pages have so many at most.
+pub record IsServedFrom (policies entities : Text) (url : Option Text) (page : ℕ) (config : Config) (h : History)
+    : Type 0 where
   pub service : Decisions Engine
   pub engine : IsEngineOf policies entities service.decider
   pub metadata : option_map string_bytes service.metadata ≡ option_map metadata_text url
+  pub page_is : service.page ≡ page
   pub served : IsServedBy service config h
 
 -- ---- how it ends

@@ -14,6 +14,8 @@ pub(crate) struct Options<'a> {
     pub(crate) entities: &'a str,
     /// Where the service is on the network, if that is to be told.
     pub(crate) url: Option<&'a str>,
+    /// How many a page of a search has at most, if that is said.
+    pub(crate) page_size: Option<usize>,
     /// How many bytes the body of a request may have, if that is said.
     pub(crate) max_body: Option<usize>,
 }
@@ -21,6 +23,7 @@ pub(crate) struct Options<'a> {
 /// The command line.
 pub(crate) fn command<'a>(alloc: Global) -> Result<Command<'a>, AllocError> {
     let url = "Where the service is, as https://pdp.example.com, for AuthZEN's metadata";
+    let page_size = "How many a page of a search has at most; left out, 100";
     let max_body = "How many bytes a body may have; left out, 1,048,576";
     Command::new(alloc, "cedar_serve")
         .bin_name("cedar_serve")?
@@ -28,6 +31,9 @@ pub(crate) fn command<'a>(alloc: Global) -> Result<Command<'a>, AllocError> {
         .arg(file(alloc, "policies", "The policies, in Cedar's text"))?
         .arg(file(alloc, "entities", "The entities, in Cedar's JSON"))?
         .arg(option(alloc, "url", "URL", url))?
+        .arg(option(alloc, "page-size", "COUNT", page_size).value_parser(ValueParser::Unsigned(
+            1, 1_000_000,
+        )))?
         .arg(option(alloc, "max-body", "BYTES", max_body).value_parser(ValueParser::Unsigned(
             0,
             1_000_000_000,
@@ -54,6 +60,7 @@ pub(crate) fn options_of<'a>(matches: &ArgMatches<'a>) -> Options<'a> {
         policies: matches.get_str("policies").unwrap_or(""),
         entities: matches.get_str("entities").unwrap_or(""),
         url: matches.get_str("url"),
+        page_size: matches.get_one::<usize>("page-size"),
         max_body: matches.get_one::<usize>("max-body"),
     }
 }

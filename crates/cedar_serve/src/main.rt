@@ -42,6 +42,9 @@ pub const REFUSED: u8 = 1;
 /// Out of memory.
 pub const OUT_OF_MEMORY: u8 = 3;
 
+/// How many a page of a search has at most, where that is not said.
+pub const PAGE_SIZE: usize = 100;
+
 fn main(rt: HostRuntime) -> ExitCode {
     ExitCode::from(run(&rt))
 }
@@ -119,6 +122,7 @@ fn serve_files<R: Files + Input + AllocGlobal + Print + RandomSource>(
         policies: policies.as_str(),
         entities: entities.as_str(),
         url: options.url,
+        page: options.page_size.unwrap_or(PAGE_SIZE),
     };
     match serve_host(rt, config(options.max_body), texts) {
         Ok(State::Aborted) => Err(Refusal::Memory),

@@ -11,7 +11,8 @@ use std::rc::RcStr;
 
 /// The metadata of a service at this URL, as JSON, if one is given. Refuses only if out of memory.
 pub(crate) fn metadata_of(alloc: Global, url: Option<&str>) -> Result<Option<String>, AllocError>
-    ensures { IfOk result (λ m. option_map string_bytes m ≡ option_map metadata_text (option_map (λ u. u.now) url.entry)) }
+    ensures { IfOk result (λ m.
+        option_map string_bytes m ≡ option_map metadata_text (option_map (λ u. u.now) url.entry)) }
 {
     match url {
         Some(url) => Ok(Some(metadata_text(alloc, url)?)),
@@ -45,6 +46,27 @@ fn metadata_json(alloc: Global, url: &str) -> Result<JsonValue, AllocError>
         "access_evaluations_endpoint",
         url,
         "/access/v1/evaluations",
+        &mut members,
+    )?;
+    put_endpoint(
+        alloc,
+        "search_subject_endpoint",
+        url,
+        "/access/v1/search/subject",
+        &mut members,
+    )?;
+    put_endpoint(
+        alloc,
+        "search_action_endpoint",
+        url,
+        "/access/v1/search/action",
+        &mut members,
+    )?;
+    put_endpoint(
+        alloc,
+        "search_resource_endpoint",
+        url,
+        "/access/v1/search/resource",
         &mut members,
     )?;
     Ok(JsonValue::Object(members))

@@ -1,8 +1,9 @@
 //! One connection, from the texts of policies and entities on.
-ghost use Rattle.std.specs.Prelude.{◌≡◌, option_map};
+ghost use Rattle.std.specs.Prelude.{◌≡◌, IfOk, IfErr, option_map, string_bytes};
 ghost use Rattle.std.specs.Io.KnownBytes.{Appends, Consumes};
-ghost use Rattle.cedar_service.specs.Started.{IsNotStarted};
-ghost use Rattle.cedar_serve.specs.Connections.{IsServedFrom, IfServed, IfNotStarted};
+ghost use Rattle.cedar_service.specs.Started.{IsEngineOf, IsNotStarted};
+ghost use Rattle.cedar_serve.specs.Connections.{IsServedBy, IsServedFrom, IfServed, IfNotStarted};
+ghost use Rattle.cedar_serve.specs.Metadata.{metadata_text};
 ghost use Rattle.cedar_serve.specs.declared.serving.Stopped.TheVariants as stopped;
 
 use crate::metadata::metadata_of;
@@ -14,7 +15,7 @@ use std::hash::RandomState;
 use std::io;
 use std::io::{Read, Write};
 
-/// What decides, as texts.
+/// What decides, as texts, and what is told of it.
 #[derive(Clone, Copy)]
 pub struct Texts<'a> {
     /// The policies, in Cedar's text.
@@ -23,6 +24,8 @@ pub struct Texts<'a> {
     pub entities: &'a str,
     /// Where the service is on the network, if that is to be told.
     pub url: Option<&'a str>,
+    /// How many a page of a search has at most.
+    pub page: usize,
 }
 
 /// Why a connection was not served to its end.
@@ -55,7 +58,8 @@ pub fn serve_texts<R: Read, W: Write>(
     writer: &mut W,
 ) -> Result<State, Stopped>
     ensures served { IfServed (λ h.
-        IsServedFrom texts.entry.policies.now texts.entry.entities.now (option_map (λ u. u.now) texts.entry.url) config h
+        IsServedFrom texts.entry.policies.now texts.entry.entities.now (option_map (λ u. u.now) texts.entry.url)
+        texts.entry.page config h
         × Consumes (R.remaining reader.old) (R.remaining reader.new) h.received
         × Appends (W.contents writer.old) (W.contents writer.new) h.sent) result }
     ensures refused { IfNotStarted (IsNotStarted texts.entry.policies.now texts.entry.entities.now) result }
@@ -68,20 +72,16 @@ pub fn serve_texts<R: Read, W: Write>(
     }
 }
 
-ghost use Rattle.std.specs.Prelude.{IfOk, IfErr, OnErr, ⊤, string_bytes};
-ghost use Rattle.cedar_service.specs.Started.{IsEngineOf};
-ghost use Rattle.cedar_serve.specs.Connections.{IsServedBy};
-ghost use Rattle.cedar_serve.specs.Metadata.{metadata_text};
-
 // The service of the engine that the texts make.
 fn service_of(alloc: Global, texts: Texts<'_>) -> Result<Decisions<Engine>, NotStarted>
     ensures engine { IfOk result (λ s. IsEngineOf texts.entry.policies.now texts.entry.entities.now s.decider) }
     ensures metadata { IfOk result (λ s.
         option_map string_bytes s.metadata ≡ option_map metadata_text (option_map (λ u. u.now) texts.entry.url)) }
+    ensures page { IfOk result (λ s. s.page ≡ texts.entry.page) }
     ensures refused { IfErr result (IsNotStarted texts.entry.policies.now texts.entry.entities.now) }
 {
     match Engine::of_texts(alloc, texts.policies, texts.entities) {
-        Ok(engine) => with_metadata(alloc, engine, texts.url),
+        Ok(engine) => with_metadata(alloc, engine, texts.url, texts.page),
         Err(reason) => Err(reason),
     }
 }
@@ -90,10 +90,12 @@ fn with_metadata(
     alloc: Global,
     engine: Engine,
     url: Option<&str>,
+    page: usize,
 ) -> Result<Decisions<Engine>, NotStarted>
     ensures engine { IfOk result (λ s. s.decider ≡ engine) }
     ensures metadata { IfOk result (λ s.
         option_map string_bytes s.metadata ≡ option_map metadata_text (option_map (λ u. u.now) url.entry)) }
+    ensures page { IfOk result (λ s. s.page ≡ page) }
     ensures memory { IfErr result (λ e. e ≡ NotStarted.Memory) }
 {
     match metadata_of(alloc, url) {
@@ -101,6 +103,7 @@ fn with_metadata(
             alloc,
             decider: engine,
             metadata,
+            page,
         }),
         Err(AllocError) => {
             drop(engine);

@@ -17,6 +17,12 @@ pub of_both : {A E : Type 0} (P Q R : A → Type 0) → ((a : A) → P a → Q a
 of_both P Q R f (Ok a) h k = f a h k
 of_both P Q R f (Err e) h k = tt
 
+-- and in four
+pub of_four : {A E : Type 0} (P Q R S T : A → Type 0) → ((a : A) → P a → Q a → R a → S a → T a) → (r : Result A E)
+    → IfOk r P → IfOk r Q → IfOk r R → IfOk r S → IfOk r T
+of_four P Q R S T f (Ok a) h i j k = f a h i j k
+of_four P Q R S T f (Err e) h i j k = tt
+
 -- and of each refusal
 pub of_err : {A E : Type 0} (P Q : E → Type 0) → ((e : E) → P e → Q e) → (r : Result A E) → IfErr r P → IfErr r Q
 of_err P Q f (Ok a) h = tt

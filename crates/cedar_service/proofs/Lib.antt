@@ -5,6 +5,8 @@ mod Known
 mod Exact
 mod Composed
 mod Responding
+mod Listed
+mod Unfound
 mod Records
 mod Bare
 mod Named

@@ -2,6 +2,9 @@ pub mod Standard
 pub mod Faults
 pub mod Asked
 pub mod Engines
+pub mod Candidates
+pub mod Versions
 pub mod Decided
+pub mod Searched
 pub mod Started
 pub mod Serving

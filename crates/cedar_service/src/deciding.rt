@@ -5,12 +5,15 @@ ghost use Rattle.cedar_endpoints.specs.Asked.{evaluation_view};
 ghost use Rattle.cedar_service.specs.Asked.{has_known_context};
 ghost use Rattle.cedar_service.specs.Decided.{IsDecided, IsDecidedWith, IsAuthorized, IsAuthorizedWith};
 ghost use Rattle.cedar_service.specs.Decided.{IsAnswered, IsRefusalOf};
+ghost use Rattle.cedar_service.specs.Engines.{version_of, candidate_count};
+ghost use Rattle.cedar_service.specs.Searched.{IsFound};
 
 use crate::engine::Engine;
 use crate::faults::{Refusal, refuse};
 use crate::requests::{has_known_context, request_of, request_said};
 use crate::responses::{outcome_of, response_to};
-use cedar_endpoints::{Decider, Evaluation, Outcome};
+use crate::searching::search;
+use cedar_endpoints::{Decider, Evaluation, Finding, Outcome, Search};
 use cedar_extensions::Extensions;
 use cedar_requests::Request;
 use std::alloc::{AllocError, Global};
@@ -22,12 +25,36 @@ impl Decider for Engine {
 
     ghost authorizes = { IsAuthorized };
 
+    ghost finds = { IsFound };
+
+    ghost version = { version_of };
+
+    ghost count = { candidate_count };
+
     fn decide(&self, alloc: Global, question: &Evaluation<'_, '_>) -> Result<Outcome, AllocError> {
         decide(self, alloc, question)
     }
 
     fn authorize(&self, alloc: Global, text: &str) -> Result<Outcome, AllocError> {
         authorize(self, alloc, text)
+    }
+
+    fn search(
+        &self,
+        alloc: Global,
+        question: &Search<'_, '_>,
+        after: usize,
+        most: usize,
+    ) -> Result<Finding, AllocError> {
+        search(self, alloc, question, after, most)
+    }
+
+    fn version_text(&self) -> &str {
+        self.version.as_str()
+    }
+
+    fn candidate_count(&self) -> usize {
+        self.candidates.len()
     }
 }
 

@@ -5,13 +5,15 @@ ghost use Rattle.cedar_functions.specs.Functions.{knowledge, these, signatures_o
 ghost use Rattle.cedar_text_parser.specs.PolicyHeights.{with_scope, AreAllNoHigher};
 ghost use Rattle.cedar_text_parser.specs.PolicyReading.{AreAllRead};
 
+use crate::candidates::candidates_of;
 use crate::contexts::LEVELS;
+use crate::versions::version_of;
 use cedar_extensions::Extensions;
 use cedar_functions::Functions;
 use cedar_hierarchy::{ClosureError, close_hierarchy};
 use cedar_json_reader::{JsonError, entities_from_json_str};
 use cedar_layers::policies::{Entities, Entity, PolicySet};
-use cedar_names::FirstRest;
+use cedar_names::{EntityUID, FirstRest};
 use cedar_standard_functions::laws::functions_are_computed;
 use cedar_text_lexer::errors::ReadError;
 use cedar_text_parser::policy_laws::known_calls_of_policies;
@@ -23,6 +25,8 @@ use std::alloc::{AllocError, Global};
 pub struct Engine {
     pub(crate) policies: ParsedPolicies,
     pub(crate) entities: Entities,
+    pub(crate) candidates: Vec<EntityUID>,
+    pub(crate) version: String,
 }
 
 /// Why no engine was made of two texts.
@@ -71,6 +75,9 @@ impl Engine {
 }
 
 ghost use Rattle.cedar_service.specs.Asked.{levels};
+ghost use Rattle.cedar_service.specs.Candidates.{AreStored};
+ghost use Rattle.cedar_service.specs.Engines.{candidates_of, version_of};
+ghost use Rattle.cedar_service.specs.Versions.{version_text};
 ghost use Rattle.cedar_service.specs.Started.{IsEngineWith, IsFailure, IsStoreSaid, IsClosedStore};
 ghost use Rattle.cedar_service.specs.Started.{IsStoreFailure, IsPoliciesFailure, IsCyclicAmong, IsUnreadAs, IsUnclosedAs};
 ghost use Rattle.cedar_service.specs.Started.{is_memory, is_read_memory};
@@ -87,28 +94,85 @@ fn engine_of_texts(
         (calls_of extensions.now) policies.now entities.now) }
 {
     match read_policies(alloc, policies, extensions) {
-        Ok(policies) => with_store(alloc, policies, entities, extensions),
+        Ok(parsed) => with_store(alloc, policies, parsed, entities, extensions),
         Err(failure) => Err(failure),
     }
 }
 
 fn with_store(
     alloc: Global,
-    policies: ParsedPolicies,
+    policies: &str,
+    parsed: ParsedPolicies,
     entities: &str,
     extensions: &Extensions<'_>,
 ) -> Result<Engine, NotStarted>
-    ensures policies { IfOk result (λ e. e.policies ≡ policies) }
+    ensures policies { IfOk result (λ e. e.policies ≡ parsed) }
     ensures entities { IfOk result (λ e.
         IsStoreSaid (extensions_view extensions.now) (calls_of extensions.now) entities.now e.entities) }
+    ensures candidates { IfOk result (λ e. AreStored e.entities (candidates_of e)) }
+    ensures version { IfOk result (λ e. version_of e ≡ version_text policies.now entities.now) }
     ensures refused { IfErr result
         (IsStoreFailure (extensions_view extensions.now) (calls_of extensions.now) entities.now) }
 {
     match read_store(alloc, entities, extensions) {
-        Ok(entities) => Ok(Engine { policies, entities }),
+        Ok(store) => with_candidates(alloc, policies, parsed, entities, store),
         Err(failure) => {
-            drop(policies);
+            drop(parsed);
             Err(failure)
+        }
+    }
+}
+
+// The engine, if there is memory for its candidates and its version.
+fn with_candidates(
+    alloc: Global,
+    policies: &str,
+    parsed: ParsedPolicies,
+    entities: &str,
+    store: Entities,
+) -> Result<Engine, NotStarted>
+    ensures policies { IfOk result (λ e. e.policies ≡ parsed) }
+    ensures entities { IfOk result (λ e. e.entities ≡ store) }
+    ensures candidates { IfOk result (λ e. AreStored e.entities (candidates_of e)) }
+    ensures version { IfOk result (λ e. version_of e ≡ version_text policies.now entities.now) }
+    ensures memory { IfErr result (λ f. f ≡ NotStarted.Memory) }
+{
+    match candidates_of(alloc, &store) {
+        Ok(candidates) => with_version(alloc, policies, parsed, entities, store, candidates),
+        Err(AllocError) => {
+            drop(parsed);
+            drop(store);
+            Err(NotStarted::Memory)
+        }
+    }
+}
+
+fn with_version(
+    alloc: Global,
+    policies: &str,
+    parsed: ParsedPolicies,
+    entities: &str,
+    store: Entities,
+    candidates: Vec<EntityUID>,
+) -> Result<Engine, NotStarted>
+    ensures policies { IfOk result (λ e. e.policies ≡ parsed) }
+    ensures entities { IfOk result (λ e. e.entities ≡ store) }
+    ensures candidates { IfOk result (λ e. e.candidates ≡ candidates) }
+    ensures version { IfOk result (λ e. version_of e ≡ version_text policies.now entities.now) }
+    ensures memory { IfErr result (λ f. f ≡ NotStarted.Memory) }
+{
+    match version_of(alloc, policies, entities) {
+        Ok(version) => Ok(Engine {
+            policies: parsed,
+            entities: store,
+            candidates,
+            version,
+        }),
+        Err(AllocError) => {
+            drop(parsed);
+            drop(store);
+            drop(candidates);
+            Err(NotStarted::Memory)
         }
     }
 }

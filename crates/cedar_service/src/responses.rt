@@ -17,7 +17,7 @@ use cedar_requests::Request;
 use std::alloc::{AllocError, Global};
 
 /// How many levels the condition of a policy that was read has at most: one more than its clauses.
-const LIMIT: usize = LEVELS + 1;
+pub(crate) const LIMIT: usize = LEVELS + 1;
 
 /// What the engine's policies decide for the request over its entities.
 pub(crate) fn response_to(

@@ -1,4 +1,4 @@
-use Rattle.std.proofs.Common.{◌≡◌, ◌∙◌, ap, refl, map, string_bytes}
+use Rattle.std.proofs.Common.{◌∙◌, ap, refl, map, string_bytes}
 use Rattle.cedar_endpoints.specs.Several.{joined, list_text}
 use Rattle.cedar_endpoints.proofs.evaluations.evaluate_several.Goals as goal
 

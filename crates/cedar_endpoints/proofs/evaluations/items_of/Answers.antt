@@ -1,6 +1,5 @@
 use Rattle.std.proofs.Common.{◌≡◌, ◌∙◌, ◌+◌, ◌++◌, List, [], append-nil, arith, drop, map, string_bytes, subst, sym}
 use Rattle.std.proofs.lemmas.List.{drop_all}
-use Rattle.json.specs.Json.{Items}
 use Rattle.json.specs.Value.{value_view, items_view}
 use Rattle.cedar_endpoints.specs.Asked.{Text}
 use Rattle.cedar_endpoints.specs.Several.{stops, IsItem, AreItems, no_item}

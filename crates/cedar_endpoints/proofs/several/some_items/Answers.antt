@@ -1,4 +1,4 @@
-use Rattle.std.proofs.Common.{◌≡◌, List, Some, subst, sym, ◌∙◌}
+use Rattle.std.proofs.Common.{◌≡◌, Some, subst, sym, ◌∙◌}
 use Rattle.json.specs.Value.{items_view}
 use Rattle.cedar_endpoints.specs.Several.{some_items}
 use Rattle.cedar_endpoints.proofs.Given.{some_listed}

@@ -12,7 +12,7 @@ returns-in-Ok-clause-served g c =
     × Consumes (g.R.Read.remaining c.args.reader.now) (g.R.Read.remaining c.serve_with.new.reader) h.received
     × Appends (g.W.Write.contents c.args.writer.now) (g.W.Write.contents c.serve_with.new.writer) h.sent)
     (λ h. IsServedFrom c.args.texts.policies.now c.args.texts.entities.now
-    (option_map (λ u. u.now) c.args.texts.url) c.args.config h
+    (option_map (λ u. u.now) c.args.texts.url) c.args.texts.page c.args.config h
     × Consumes (g.R.Read.remaining c.args.reader.now) (g.R.Read.remaining c.serve_with.new.reader) h.received
     × Appends (g.W.Write.contents c.args.writer.now) (g.W.Write.contents c.serve_with.new.writer) h.sent)
     c.serve_with.result
@@ -21,6 +21,7 @@ returns-in-Ok-clause-served g c =
         service = c.in-Ok.service;
         engine = c.in-Ok.ensures.engine;
         metadata = c.in-Ok.ensures.metadata;
+        page_is = c.in-Ok.ensures.page;
         served = served;
       },
       read,

@@ -4,9 +4,11 @@ use Rattle.cedar_functions.specs.Functions.{these, signatures_of}
 use Rattle.cedar_text_parser.specs.PolicyHeights.{with_scope, AreAllNoHigher}
 use Rattle.cedar_text_parser.specs.PolicyReading.{AreAllRead}
 use Rattle.cedar_service.specs.Asked.{levels}
-use Rattle.cedar_service.specs.Engines.{read_policies, entities_of}
+use Rattle.cedar_service.specs.Candidates.{AreStored}
+use Rattle.cedar_service.specs.Versions.{version_text}
+use Rattle.cedar_service.specs.Engines.{read_policies, entities_of, candidates_of, version_of}
 use Rattle.cedar_service.specs.Started.{IsEngineWith, IsStoreSaid, IsStoreFailure, IsFailure}
-use Rattle.cedar_service.proofs.Composed.{of_both, of_err}
+use Rattle.cedar_service.proofs.Composed.{of_four, of_err}
 use Rattle.cedar_service.proofs.Started.{store_failure, policies_failure}
 use Rattle.cedar_service.proofs.engine.engine_of_texts.Goals as goal
 
@@ -14,15 +16,20 @@ pub returns-in-Ok-clause-engine : goal.returns-in-Ok-clause-engine
 returns-in-Ok-clause-engine g c =
     let x = c.args.extensions.now in
     let k = these (signatures_of x) in
-    let parsed = c.in-Ok.policies in
-    of_both (λ e. read_policies e ≡ parsed)
+    let parsed = c.in-Ok.parsed in
+    of_four (λ e. read_policies e ≡ parsed)
     (λ e. IsStoreSaid (extensions_view x) (calls_of x) c.args.entities.now (entities_of e))
+    (λ e. AreStored (entities_of e) (candidates_of e))
+    (λ e. version_of e ≡ version_text c.args.policies.now c.args.entities.now)
     (IsEngineWith k (extensions_view x) (calls_of x) c.args.policies.now c.args.entities.now)
-    (λ e same store. record {
+    (λ e same store candidates version. record {
       policies_are = subst (λ p. AreAllRead k c.args.policies.now levels p) (sym same) c.in-Ok.ensures.read;
       low = subst (λ p. AreAllNoHigher (with_scope levels) p) (sym same) c.in-Ok.ensures.low;
       store_is = store;
-    }) c.with_store.result c.with_store.ensures.policies c.with_store.ensures.entities
+      candidates_are = candidates;
+      version_is = version;
+    }) c.with_store.result c.with_store.ensures.policies c.with_store.ensures.entities c.with_store.ensures.candidates
+    c.with_store.ensures.version
 
 pub returns-in-Ok-clause-refused : goal.returns-in-Ok-clause-refused
 returns-in-Ok-clause-refused g c =

@@ -1,0 +1,44 @@
+use Rattle.std.proofs.Common.{◌≡◌, subst, IfOk, map}
+use Rattle.cedar_model.specs.Settings.{shallow}
+use Rattle.cedar_model.specs.Policies.{skip}
+use Rattle.cedar_model.specs.Configurations.{configured}
+use Rattle.cedar_extensions.specs.Extensions.{extensions_view, calls_of}
+use Rattle.cedar_layers.specs.Stores.{store_view}
+use Rattle.cedar_names.specs.Names.{uid_name}
+use Rattle.cedar_requests.specs.Requests.{request_view}
+use Rattle.cedar_authorizer.specs.Configured.{configuration, extensions_of, limit_of, mode_of, resolution_of}
+use Rattle.cedar_authorizer.specs.Responding.{considered}
+use Rattle.cedar_search.specs.Questions.{Question}
+use Rattle.cedar_search.specs.Pages.{IsPage, page_view}
+use Rattle.cedar_service.specs.Engines.{policies_of, entities_of, candidates_of}
+use Rattle.cedar_service.specs.Searched.{question_of}
+use Rattle.cedar_service.proofs.searching.page_of.Goals as goal
+
+pub returns : goal.returns
+returns g c =
+    let a = c.new-authorizer.result in
+    let x = c.args.extensions.now in
+    let e = c.args.engine.now in
+    let r = request_view c.args.request.now in
+    let made = c.new-authorizer.ensures in
+    let own : extensions_of a ≡ x = made.extensions in
+    let mode : mode_of a ≡ skip = made.mode in
+    let resolution : resolution_of a ≡ shallow = made.resolution in
+    let limit : limit_of a ≡ 4001 = made.limit in
+    let asked : Question = record {
+      configuration = configuration a;
+      part = c.args.part;
+      request = r;
+      store = store_view (entities_of e);
+      policies = considered (policies_of e);
+    } in
+    let same : asked ≡ question_of (extensions_view x) (calls_of x) e c.args.part r = λ i. record {
+      configuration = configured (calls_of (own i)) (mode i) (resolution i) (extensions_view (own i)) (limit i);
+      part = c.args.part;
+      request = r;
+      store = store_view (entities_of e);
+      policies = considered (policies_of e);
+    } in
+    subst (λ q. IfOk c.page.result (λ p. IsPage q (candidates_of e) c.args.after c.args.most (page_view p))) same
+    (subst (λ us. IfOk c.page.result (λ p. IsPage asked (map uid_name us) c.args.after c.args.most (page_view p)))
+    c.as_slice.ensures.value c.page.ensures)

@@ -1,0 +1,216 @@
+//! What a search of an engine finds.
+ghost use Rattle.std.specs.Prelude.{◌≡◌, true, IfOk};
+ghost use Rattle.cedar_extensions.specs.Extensions.{extensions_view, calls_of};
+ghost use Rattle.cedar_requests.specs.Requests.{request_view};
+ghost use Rattle.cedar_search.specs.Pages.{IsPage, page_view};
+ghost use Rattle.cedar_endpoints.specs.Asked.{evaluation_view, named_view};
+ghost use Rattle.cedar_endpoints.specs.Searches.{search_view, parts_view};
+ghost use Rattle.cedar_service.specs.Asked.{has_known_context};
+ghost use Rattle.cedar_service.specs.Engines.{candidates_of};
+ghost use Rattle.cedar_service.specs.Searched.{sample, sample_named, part_of, question_of};
+ghost use Rattle.cedar_service.specs.Searched.{IsFound, IsFoundWith, IsPageFor, IsListed, IsFindingOf, IsUnfound};
+
+use crate::engine::Engine;
+use crate::faults::{Refusal, refuse};
+use crate::found::texts_of;
+use crate::opened::opened;
+use crate::requests::{has_known_context, request_of};
+use crate::responses::LIMIT;
+use cedar_authorizer::authorizer::Authorizer;
+use cedar_endpoints::{Evaluation, Finding, Named, Parts, Search};
+use cedar_extensions::Extensions;
+use cedar_requests::Request;
+use cedar_search::{Page, Part};
+use std::alloc::{AllocError, Global};
+
+/// The page of what is found behind so many candidates, with at most so many, or why there is none.
+pub(crate) fn search(
+    engine: &Engine,
+    alloc: Global,
+    question: &Search<'_, '_>,
+    after: usize,
+    most: usize,
+) -> Result<Finding, AllocError>
+    ensures { IfOk result (IsFound engine.now (search_view question.now) after most) }
+{
+    let extensions = Extensions::all_available();
+    search_with(engine, alloc, question, after, most, &extensions)
+}
+
+fn search_with(
+    engine: &Engine,
+    alloc: Global,
+    question: &Search<'_, '_>,
+    after: usize,
+    most: usize,
+    extensions: &Extensions<'_>,
+) -> Result<Finding, AllocError>
+    ensures { IfOk result (IsFoundWith (extensions_view extensions.now) (calls_of extensions.now) engine.now
+        (search_view question.now) after most) }
+{
+    let sample = sample_of(question);
+    match request_of(alloc, &sample, extensions) {
+        Ok(request) => find(
+            engine,
+            alloc,
+            part_of(question.parts),
+            request,
+            after,
+            most,
+            extensions,
+        ),
+        Err(refusal) => unfound(refusal),
+    }
+}
+
+// The evaluation with an empty id or name in the part that is searched for.
+fn sample_of<'v, 'a>(question: &Search<'v, 'a>) -> Evaluation<'v, 'a>
+    ensures { evaluation_view result ≡ sample (search_view question.now) }
+{
+    let context = question.context;
+    match question.parts {
+        Parts::Subject {
+            type_name,
+            action,
+            resource,
+        } => Evaluation {
+            subject: sample_named(type_name),
+            action,
+            resource,
+            context,
+        },
+        Parts::Action { subject, resource } => Evaluation {
+            subject,
+            action: "",
+            resource,
+            context,
+        },
+        Parts::Resource {
+            subject,
+            action,
+            type_name,
+        } => Evaluation {
+            subject,
+            action,
+            resource: sample_named(type_name),
+            context,
+        },
+    }
+}
+
+fn sample_named(type_name: &str) -> Named<'_>
+    ensures { named_view result ≡ sample_named type_name.now }
+{
+    Named { type_name, id: "" }
+}
+
+fn part_of(parts: Parts<'_>) -> Part
+    ensures { result ≡ part_of (parts_view parts.entry) }
+{
+    match parts {
+        Parts::Subject { .. } => Part::Principal,
+        Parts::Action { .. } => Part::Action,
+        Parts::Resource { .. } => Part::Resource,
+    }
+}
+
+fn find(
+    engine: &Engine,
+    alloc: Global,
+    part: Part,
+    request: Request,
+    after: usize,
+    most: usize,
+    extensions: &Extensions<'_>,
+) -> Result<Finding, AllocError>
+    ensures { IfOk result (IsPageFor (extensions_view extensions.now) (calls_of extensions.now) engine.now part request
+        after most) }
+{
+    if has_known_context(&request) {
+        find_known(engine, alloc, part, request, after, most, extensions)
+    } else {
+        drop(request);
+        unfound(refuse(alloc, "$.context", "an unknown stands in it"))
+    }
+}
+
+fn find_known(
+    engine: &Engine,
+    alloc: Global,
+    part: Part,
+    request: Request,
+    after: usize,
+    most: usize,
+    extensions: &Extensions<'_>,
+) -> Result<Finding, AllocError>
+    requires { has_known_context request ≡ true }
+    ensures { IfOk result (IsPageFor (extensions_view extensions.now) (calls_of extensions.now) engine.now part request
+        after most) }
+{
+    let open = opened(part, request)?;
+    let finding = listed(engine, alloc, part, &open, after, most, extensions);
+    drop(open);
+    finding
+}
+
+fn listed(
+    engine: &Engine,
+    alloc: Global,
+    part: Part,
+    request: &Request,
+    after: usize,
+    most: usize,
+    extensions: &Extensions<'_>,
+) -> Result<Finding, AllocError>
+    ensures { IfOk result (IsListed
+        (question_of (extensions_view extensions.now) (calls_of extensions.now) engine.now part
+        (request_view request.now)) (candidates_of engine.now) after most) }
+{
+    let page = page_of(engine, alloc, part, request, after, most, extensions)?;
+    finding_of(alloc, part, &page)
+}
+
+fn page_of(
+    engine: &Engine,
+    alloc: Global,
+    part: Part,
+    request: &Request,
+    after: usize,
+    most: usize,
+    extensions: &Extensions<'_>,
+) -> Result<Page, AllocError>
+    ensures { IfOk result (λ p. IsPage
+        (question_of (extensions_view extensions.now) (calls_of extensions.now) engine.now part
+        (request_view request.now)) (candidates_of engine.now) after most (page_view p)) }
+{
+    let authorizer = Authorizer::new(extensions, LIMIT);
+    let search = cedar_search::Search {
+        part,
+        request,
+        policies: &engine.policies.policies,
+        entities: &engine.entities,
+        candidates: engine.candidates.as_slice(),
+    };
+    search.page(alloc, &authorizer, after, most)
+}
+
+fn finding_of(alloc: Global, part: Part, page: &Page) -> Result<Finding, AllocError>
+    ensures { IfOk result (IsFindingOf part (page_view page.now)) }
+{
+    let results = texts_of(alloc, part, page.found.as_slice())?;
+    Ok(Finding::Found {
+        results,
+        next: page.next,
+    })
+}
+
+// Nothing is found, for what is told.
+#[cold]
+fn unfound(refusal: Refusal) -> Result<Finding, AllocError>
+    ensures { IfOk result (IsUnfound refusal) }
+{
+    match refusal {
+        Refusal::Told(error) => Ok(Finding::Refused { error }),
+        Refusal::Memory => Err(AllocError),
+    }
+}
