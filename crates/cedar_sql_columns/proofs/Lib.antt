@@ -1,0 +1,4 @@
+pub mod Views
+pub mod Members
+pub mod Refused
+pub mod TextLemmas
