@@ -12,12 +12,13 @@ const INPUT: &str = "-";
 const INPUT_NAME: &str = "standard input";
 
 // The options that name one file.
-const FILE_OPTIONS: [&str; 5] = [
+const FILE_OPTIONS: [&str; 6] = [
     "policies",
     "context",
     "request-json",
     "requests",
     "entities",
+    "sql",
 ];
 
 /// A file's name, and its text.
@@ -42,6 +43,7 @@ pub(crate) struct Texts {
     request: Option<File>,
     requests: Option<File>,
     entities: Option<File>,
+    columns: Option<File>,
     steps: Vec<StepFiles>,
 }
 
@@ -57,6 +59,7 @@ impl Texts {
         let request = text_of(rt, matches.get_str("request-json"))?;
         let requests = text_of(rt, matches.get_str("requests"))?;
         let entities = text_of(rt, matches.get_str("entities"))?;
+        let columns = text_of(rt, matches.get_str("sql"))?;
         let steps = step_files(rt, matches)?;
         Ok(Texts {
             policies,
@@ -64,6 +67,7 @@ impl Texts {
             request,
             requests,
             entities,
+            columns,
             steps,
         })
     }
@@ -100,6 +104,11 @@ impl Texts {
     /// The entities, if their file is named.
     pub(crate) fn entities(&self) -> Option<Source<'_>> {
         source(&self.entities)
+    }
+
+    /// The columns of a table, if their file is named.
+    pub(crate) fn columns(&self) -> Option<Source<'_>> {
+        source(&self.columns)
     }
 
     /// The steps, in their order; whether there may be more entities than those of a step, and how many ancestors these
