@@ -244,7 +244,7 @@ fn plan_row(
 fn no_fit(alloc: Global) -> Refusal {
     let line = String::from_str(
         alloc,
-        "--sql: the table has entities of another type than the one that is asked",
+        "--sql: the rows may be of another type than the one that is asked",
     );
     refuse_with_line(alloc, line)
 }
