@@ -18,3 +18,13 @@ because P Q f (refusals.Told lines) h = f h
 pub of_err : {A : Type 0} (P Q : Type 0) → (P → Q) → (r : Result A Refusal) → IfErr r (IsToldFor P) → IfErr r (IsToldFor Q)
 of_err P Q f (Ok a) h = tt
 of_err P Q f (Err e) h = because P Q f e h
+
+-- two facts of each answer
+pub both_ok : {A E : Type 0} (P Q R : A → Type 0) → ((a : A) → P a → Q a → R a) → (r : Result A E) → IfOk r P → IfOk r Q → IfOk r R
+both_ok P Q R f (Ok a) p q = f a p q
+both_ok P Q R f (Err e) p q = tt
+
+-- what is told is told for a reason that there is
+pub told : (P : Type 0) → P → (r : Refusal) → IsToldFor P r
+told P h refusals.Memory = tt
+told P h (refusals.Told lines) = h

@@ -178,9 +178,9 @@ fn response_to(
     ensures refused { IfErr result (IsToldFor
         (IsPartialUnread (extensions_view extensions.now) (calls_of extensions.now) asked.now)) }
 {
-    let limit = levels_within(planning.way.limit);
-    let authorizer = Authorizer::new(extensions, limit).with_error_handling(
-        planning.way.error_handling,
+    let way = planning.way;
+    let authorizer = Authorizer::new(extensions, levels_within(way.limit)).with_error_handling(
+        way.error_handling,
     );
     first_stage(
         alloc,
@@ -228,10 +228,10 @@ fn plan_row(
     row: &Unknown,
     warnings: String,
 ) -> Result<Printed, Refusal>
-    ensures answered { row_in (request_view (request_of response.now)) ≡ Some (row_term row.now) → IfOk result
+    requires { row_in (request_view (request_of response.now)) ≡ Some (row_term row.now) }
+    ensures answered { IfOk result
         (IsPlannedOf planning.entry.table.now planning.entry.is_candidates response.now) }
-    ensures refused { row_in (request_view (request_of response.now)) ≡ Some (row_term row.now) → IfErr result
-        (IsToldFor (IsUnplannedOf planning.entry.table.now response.now)) }
+    ensures refused { IfErr result (IsToldFor (IsUnplannedOf planning.entry.table.now response.now)) }
 {
     if fits(row, &planning.table.columns.entity_type) {
         plan_for(alloc, planning, response, row, warnings)
