@@ -1,20 +1,20 @@
-mod Positions
-mod Alone
-mod Batching
-mod Composed
-mod Known
-mod Exact
-mod Lines
-mod Unbroken
-mod Lined
-mod Naming
-mod Words
-mod Reasoned
-mod Counting
-mod Valued
-mod Opening
-mod Stepping
-mod Halting
-mod Staged
-mod Explaining
-mod Stating
+pub mod Positions
+pub mod Alone
+pub mod Batching
+pub mod Composed
+pub mod Known
+pub mod Exact
+pub mod Lines
+pub mod Unbroken
+pub mod Lined
+pub mod Naming
+pub mod Words
+pub mod Reasoned
+pub mod Counting
+pub mod Valued
+pub mod Opening
+pub mod Stepping
+pub mod Halting
+pub mod Staged
+pub mod Explaining
+pub mod Stating

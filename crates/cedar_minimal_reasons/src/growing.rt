@@ -8,7 +8,7 @@ use crate::cases::{Case, decided_by, response_by, settled};
 use cedar_authorizer::authorizer::{Authorizer, Decision, PartialResponse};
 use cedar_fallible::{add_last, pair_of};
 use cedar_layers::expressions::{EntityUID, Unknown};
-use cedar_reasons::{Fact, all_facts, is_kept, value_name};
+use cedar_reasons::{Fact, all_facts, is_kept, tag_name, value_name};
 use cedar_unknowns::Unknowns;
 use std::alloc::{AllocError, Global};
 use std::collections::BTreeSet;
@@ -127,7 +127,14 @@ fn is_asked(
         Fact::Context => Ok(false),
         Fact::NoOtherEntity => Ok(false),
         Fact::Entity(uid) => Ok(is_among(entities, uid)),
-        Fact::Attribute(uid, name) => is_value_asked(alloc, facts, uid, name, names),
+        Fact::Attribute(uid, name) => {
+            let is_stored = is_kept(facts, Fact::Entity(uid));
+            Ok(is_stored && is_among_names(names, value_name(alloc, uid, name)?))
+        }
+        Fact::Tag(uid, name) => {
+            let is_stored = is_kept(facts, Fact::Entity(uid));
+            Ok(is_stored && is_among_names(names, tag_name(alloc, uid, name)?))
+        }
     }
 }
 
@@ -135,18 +142,6 @@ fn is_among(entities: &[EntityUID], uid: &EntityUID) -> bool {
     entities.iter().any(|entity| entity == uid)
 }
 
-// Whether the unknown of the attribute's value is among these. It can be so only where the entity is kept.
-fn is_value_asked(
-    alloc: Global,
-    facts: &[Fact<'_>],
-    uid: &EntityUID,
-    name: &RcStr,
-    names: &BTreeSet<RcStr>,
-) -> Result<bool, AllocError> {
-    if is_kept(facts, Fact::Entity(uid)) {
-        let asked = value_name(alloc, uid, name)?;
-        Ok(names.contains(asked.as_str()))
-    } else {
-        Ok(false)
-    }
+fn is_among_names(names: &BTreeSet<RcStr>, name: RcStr) -> bool {
+    names.contains(name.as_str())
 }

@@ -60,14 +60,6 @@ part_middle (q ∷ ps) k v more h =
 names_middle : (ps : List Part) (q : Part) (more : List Part) → names_of (ps ++ q ∷ more) ≡ names_of ps ++ q.0 ∷ names_of more
 names_middle ps q more = map-append (λ (p : Part). p.0) ps (q ∷ more)
 
--- a part as it is
-abbrev pub same : Part → Part
-same q = q
-
-pub map_same : (ps : List Part) → map same ps ≡ ps
-map_same [] = refl
-map_same (p ∷ ps) = ap (λ (qs : List Part). p ∷ qs) (map_same ps)
-
 module _ (all : List Part) (f : Part → Part) where
   -- the parts that are done, those that are left under these names, and what is made of the first
   pub record AreUnderWay (ks : List Text) (made : List Part) : Type 0 where

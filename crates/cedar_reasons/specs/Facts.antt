@@ -13,7 +13,7 @@ use Rattle.cedar_reasons.specs.declared.facts.Fact.{Fact}
 use Rattle.cedar_reasons.specs.declared.facts.Fact.TheVariants as facts
 
 -- who asks, to do what, with what, in which context; that there is no entity but the store's; that an entity is as it
--- is stored, but for the values of its attributes; the value of one of its attributes
+-- is stored, but for the values of its attributes and tags; the value of one of its attributes, or of its tags
 pub data KnownFact : Type 0 where
   of_principal : KnownFact
   of_action : KnownFact
@@ -22,6 +22,7 @@ pub data KnownFact : Type 0 where
   of_absence : KnownFact
   of_entity : EntityName → KnownFact
   of_attribute : EntityName → Text → KnownFact
+  of_tag : EntityName → Text → KnownFact
 
 abbrev pub fact_view : Fact → KnownFact
 fact_view facts.Principal = of_principal
@@ -31,6 +32,7 @@ fact_view facts.Context = of_context
 fact_view facts.NoOtherEntity = of_absence
 fact_view (facts.Entity u) = of_entity (uid_name u.now)
 fact_view (facts.Attribute u k) = of_attribute (uid_name u.now) (rc_str_bytes k.now)
+fact_view (facts.Tag u k) = of_tag (uid_name u.now) (rc_str_bytes k.now)
 
 abbrev pub facts_view : List Fact → List KnownFact
 facts_view fs = map fact_view fs
@@ -65,6 +67,10 @@ abbrev pub is_attribute : EntityName → Text → KnownFact → Bool
 is_attribute n k (of_attribute m j) = entity_eq n m && text_eq k j
 is_attribute n k other = false
 
+abbrev pub is_tag : EntityName → Text → KnownFact → Bool
+is_tag n k (of_tag m j) = entity_eq n m && text_eq k j
+is_tag n k other = false
+
 -- that two facts are one
 abbrev pub is_same : KnownFact → KnownFact → Bool
 is_same of_principal f = is_principal f
@@ -74,6 +80,7 @@ is_same of_context f = is_context f
 is_same of_absence f = is_absence f
 is_same (of_entity n) f = is_entity n f
 is_same (of_attribute n k) f = is_attribute n k f
+is_same (of_tag n k) f = is_tag n k f
 
 -- whether the fact is among these
 abbrev pub is_kept : List KnownFact → KnownFact → Bool
@@ -89,9 +96,15 @@ is_one_of f fs = list_any (λ x. is_same f (fact_view x)) fs
 abbrev pub lent : List (Bor Entity) → List Entity
 lent es = map (λ e. e.now) es
 
--- of an entity: that it is as it is stored, and each attribute's value
+-- of an entity: that it is as it is stored, and each attribute's and each tag's value
+abbrev pub attribute_facts : Entity → List KnownFact
+attribute_facts e = map (of_attribute (entity_name e)) (names_of (entity_view e).attributes)
+
+abbrev pub tag_facts : Entity → List KnownFact
+tag_facts e = map (of_tag (entity_name e)) (names_of (entity_view e).tags)
+
 abbrev pub facts_of_entity : Entity → List KnownFact
-facts_of_entity e = of_entity (entity_name e) ∷ map (of_attribute (entity_name e)) (names_of (entity_view e).attributes)
+facts_of_entity e = of_entity (entity_name e) ∷ (attribute_facts e ++ tag_facts e)
 
 abbrev pub facts_of_each : List Entity → List KnownFact
 facts_of_each [] = []

@@ -7,14 +7,13 @@ use Rattle.cedar_model.specs.Failures.{PartialValue, residual}
 use Rattle.cedar_layers.specs.declared.policies.entities.Entity.{Entity}
 use Rattle.cedar_layers.specs.Stores.{entity_name, entity_view, Held, with_entity}
 use Rattle.cedar_reasons.specs.Facts.{KnownFact, of_entity, is_kept}
-use Rattle.cedar_reasons.specs.Names.{value_name}
 use Rattle.cedar_reasons.specs.Reduced.{reduced_entity}
 
--- the part that was found, if it is kept, and else its unknown
-abbrev pub value_at : Bool → EntityName → Text → Option PartialValue → PartialValue
-value_at true n k (Some p) = p
-value_at true n k None = residual (unknown (value_name n k) None)
-value_at false n k o = residual (unknown (value_name n k) None)
+-- the part that was found, if it is kept, and else its unknown, of this name
+abbrev pub value_at : Bool → Text → Option PartialValue → PartialValue
+value_at true u (Some p) = p
+value_at true u None = residual (unknown u None)
+value_at false u o = residual (unknown u None)
 
 -- the part in its place, in the order of names
 abbrev pub put_at : Text → PartialValue → List (Text × PartialValue) → List (Text × PartialValue)

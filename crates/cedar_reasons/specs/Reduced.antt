@@ -9,8 +9,8 @@ use Rattle.cedar_model.specs.Settings.{StoredEntity, Store}
 use Rattle.cedar_layers.specs.declared.policies.entities.Entity.{Entity}
 use Rattle.cedar_layers.specs.Stores.{entity_name, store_of}
 use Rattle.cedar_reasons.specs.Facts.{KnownFact, of_principal, of_action, of_resource, of_context, of_absence}
-use Rattle.cedar_reasons.specs.Facts.{of_entity, of_attribute, is_kept}
-use Rattle.cedar_reasons.specs.Names.{value_name}
+use Rattle.cedar_reasons.specs.Facts.{of_entity, of_attribute, of_tag, is_kept}
+use Rattle.cedar_reasons.specs.Names.{value_name, tag_name}
 
 -- ---- the request
 
@@ -34,18 +34,24 @@ reduced_request fs r = record {
 
 -- ---- entities
 
--- a value that is kept, or its unknown
-abbrev pub kept_value : Bool → EntityName → Text → PartialValue → PartialValue
-kept_value true n k p = p
-kept_value false n k p = residual (unknown (value_name n k) None)
+-- a value that is kept, or its unknown, of this name
+abbrev pub kept_value : Bool → Text → PartialValue → PartialValue
+kept_value true u p = p
+kept_value false u p = residual (unknown u None)
 
 abbrev pub reduced_part : List KnownFact → EntityName → (Text × PartialValue) → (Text × PartialValue)
-reduced_part fs n p = (p.0, kept_value (is_kept fs (of_attribute n p.0)) n p.0 p.1)
+reduced_part fs n p = (p.0, kept_value (is_kept fs (of_attribute n p.0)) (value_name n p.0) p.1)
 
--- an entity has its ancestors, its tags and the names of its attributes; of these the values that are kept
+abbrev pub reduced_tag : List KnownFact → EntityName → (Text × PartialValue) → (Text × PartialValue)
+reduced_tag fs n p = (p.0, kept_value (is_kept fs (of_tag n p.0)) (tag_name n p.0) p.1)
+
+-- an entity has its ancestors, and the names of its attributes and tags; of these the values that are kept
 abbrev pub reduced_entity : List KnownFact → EntityName → StoredEntity → StoredEntity
-reduced_entity fs n d =
-    record { attributes = map (reduced_part fs n) d.attributes; tags = d.tags; ancestors = d.ancestors }
+reduced_entity fs n d = record {
+  attributes = map (reduced_part fs n) d.attributes;
+  tags = map (reduced_tag fs n) d.tags;
+  ancestors = d.ancestors;
+}
 
 abbrev pub kept_entity : Bool → List KnownFact → EntityName → Option StoredEntity → Option StoredEntity
 kept_entity true fs n o = option_map (reduced_entity fs n) o

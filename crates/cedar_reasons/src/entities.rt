@@ -6,12 +6,14 @@ ghost use Rattle.cedar_names.specs.Names.{uid_name};
 ghost use Rattle.cedar_values.specs.Residuals.{partial_view};
 ghost use Rattle.cedar_layers.specs.Parts.{parts_view, found_part, is_restricted_part, are_restricted_parts};
 ghost use Rattle.cedar_layers.specs.Stores.{entity_name, entity_view, store_view, no_entities, with_entities};
-ghost use Rattle.cedar_reasons.specs.Facts.{facts_view, lent, is_kept, of_entity, of_attribute};
-ghost use Rattle.cedar_reasons.specs.Reduced.{reduced_part, reduced_entity, reduced_store, is_whole, keeps_each, keeps_lent};
+ghost use Rattle.cedar_reasons.specs.Facts.{facts_view, lent, is_kept, of_entity, of_attribute, of_tag};
+ghost use Rattle.cedar_reasons.specs.Names.{value_name, tag_name};
+ghost use Rattle.cedar_reasons.specs.Reduced.{reduced_part, reduced_tag, reduced_entity, reduced_store};
+ghost use Rattle.cedar_reasons.specs.Reduced.{is_whole, keeps_each, keeps_lent};
 ghost use Rattle.cedar_reasons.specs.Kept.{value_at, put_at, are_kept, with_kept};
 
 use crate::facts::{Fact, is_kept};
-use crate::names::unknown_value;
+use crate::names::{unknown_attribute, unknown_tag};
 use cedar_fallible::{add_last, beside};
 use cedar_layers::expressions::{EntityUID, PartialValue};
 use cedar_layers::policies::{Entities, Entity};
@@ -92,14 +94,14 @@ fn add_kept(
     }
 }
 
-// The entity with its ancestors, its tags and the names of its attributes, and of these the values that are kept.
+// The entity with its ancestors and the names of its attributes and tags, and of these the values that are kept.
 fn reduced_entity(alloc: Global, entity: &Entity, facts: &[Fact<'_>]) -> Result<Entity, AllocError>
     ensures name { IfOk result (λ e. entity_name e ≡ entity_name entity.now) }
     ensures view { IfOk result (λ e. entity_view e ≡
         reduced_entity (facts_view facts.now) (entity_name entity.now) (entity_view entity.now)) }
 {
     let attributes = reduced_attributes(alloc, entity, facts)?;
-    let (attributes, tags) = beside(attributes, copied_tags(alloc, entity))?;
+    let (attributes, tags) = beside(attributes, reduced_tags(alloc, entity, facts))?;
     let ((attributes, tags), named) = beside((attributes, tags), copied_names(entity))?;
     Ok(Entity::new(named.0, attributes, named.1, tags))
 }
@@ -117,28 +119,6 @@ fn copied_ancestors(entity: &Entity) -> Result<BTreeSet<EntityUID>, AllocError>
     ensures { IfOk result (λ s. map uid_name s.keys ≡ (entity_view entity.now).ancestors) }
 {
     Ok(entity.ancestors().clone()?)
-}
-
-// Its tags.
-fn copied_tags(alloc: Global, entity: &Entity) -> Result<Parts, AllocError>
-    ensures parts { IfOk result (λ m. parts_view m.entries ≡ (entity_view entity.now).tags) }
-    ensures restricted { IfOk result (λ m. are_restricted_parts (parts_view m.entries) ≡ true) }
-{
-    let mut tags: Parts = BTreeMap::new(alloc);
-    'names: for name in entity.tag_keys() {
-        let key = copied_name(name)?;
-        let tag = copied_tag(alloc, entity, name)?;
-        put(&mut tags, key, tag)?;
-    }
-    Ok(tags)
-}
-
-fn copied_tag(alloc: Global, entity: &Entity, name: &RcStr) -> Result<PartialValue, AllocError>
-    ensures view { IfOk result (λ p. partial_view p ≡ value_at true (entity_name entity.now) (rc_str_bytes name.now)
-        (part_at (rc_str_bytes name.now) (entity_view entity.now).tags)) }
-    ensures restricted { IfOk result (λ p. is_restricted_part (partial_view p) ≡ true) }
-{
-    Ok(found_part(alloc, entity, name, entity.get_tag(name.as_str()))?)
 }
 
 // Its attributes, with the values that are kept.
@@ -169,32 +149,85 @@ fn reduced_value(
 ) -> Result<PartialValue, AllocError>
     ensures view { IfOk result (λ p. partial_view p ≡ value_at
         (is_kept (facts_view facts.now) (of_attribute (entity_name entity.now) (rc_str_bytes name.now)))
-        (entity_name entity.now) (rc_str_bytes name.now)
+        (value_name (entity_name entity.now) (rc_str_bytes name.now))
         (part_at (rc_str_bytes name.now) (entity_view entity.now).attributes)) }
     ensures restricted { IfOk result (λ p. is_restricted_part (partial_view p) ≡ true) }
 {
     if is_kept(facts, Fact::Attribute(entity.uid(), name)) {
-        found_part(alloc, entity, name, entity.get(name.as_str()))
+        found_attribute(alloc, entity, name, entity.get(name.as_str()))
     } else {
-        unknown_value(alloc, entity.uid(), name)
+        unknown_attribute(alloc, entity.uid(), name)
     }
 }
 
-// The part that was found under the name.
-fn found_part(
+// The part that was found under the attribute's name.
+fn found_attribute(
     alloc: Global,
     entity: &Entity,
     name: &RcStr,
     found: Option<&PartialValue>,
 ) -> Result<PartialValue, AllocError>
     requires { IfSome found (λ p. is_restricted_part (partial_view p.now) ≡ true) }
-    ensures view { IfOk result (λ p. partial_view p ≡ value_at true (entity_name entity.now) (rc_str_bytes name.now)
-        (found_part (option_copied found.entry))) }
+    ensures view { IfOk result (λ p. partial_view p ≡
+        value_at true (value_name (entity_name entity.now) (rc_str_bytes name.now)) (found_part (option_copied found.entry))) }
     ensures restricted { IfOk result (λ p. is_restricted_part (partial_view p) ≡ true) }
 {
     match found {
         Some(part) => Ok(part.clone()?),
-        None => unknown_value(alloc, entity.uid(), name),
+        None => unknown_attribute(alloc, entity.uid(), name),
+    }
+}
+
+// Its tags, with the values that are kept.
+fn reduced_tags(alloc: Global, entity: &Entity, facts: &[Fact<'_>]) -> Result<Parts, AllocError>
+    ensures parts { IfOk result (λ m. parts_view m.entries ≡
+        map (reduced_tag (facts_view facts.now) (entity_name entity.now)) (entity_view entity.now).tags) }
+    ensures restricted { IfOk result (λ m. are_restricted_parts (parts_view m.entries) ≡ true) }
+{
+    let mut tags: Parts = BTreeMap::new(alloc);
+    'names: for name in entity.tag_keys() {
+        let key = copied_name(name)?;
+        let value = reduced_tag(alloc, entity, name, facts)?;
+        put(&mut tags, key, value)?;
+    }
+    Ok(tags)
+}
+
+// The value of the tag, if it is kept, and else its unknown.
+fn reduced_tag(
+    alloc: Global,
+    entity: &Entity,
+    name: &RcStr,
+    facts: &[Fact<'_>],
+) -> Result<PartialValue, AllocError>
+    ensures view { IfOk result (λ p. partial_view p ≡ value_at
+        (is_kept (facts_view facts.now) (of_tag (entity_name entity.now) (rc_str_bytes name.now)))
+        (tag_name (entity_name entity.now) (rc_str_bytes name.now))
+        (part_at (rc_str_bytes name.now) (entity_view entity.now).tags)) }
+    ensures restricted { IfOk result (λ p. is_restricted_part (partial_view p) ≡ true) }
+{
+    if is_kept(facts, Fact::Tag(entity.uid(), name)) {
+        found_tag(alloc, entity, name, entity.get_tag(name.as_str()))
+    } else {
+        unknown_tag(alloc, entity.uid(), name)
+    }
+}
+
+// The part that was found under the tag's name.
+fn found_tag(
+    alloc: Global,
+    entity: &Entity,
+    name: &RcStr,
+    found: Option<&PartialValue>,
+) -> Result<PartialValue, AllocError>
+    requires { IfSome found (λ p. is_restricted_part (partial_view p.now) ≡ true) }
+    ensures view { IfOk result (λ p. partial_view p ≡
+        value_at true (tag_name (entity_name entity.now) (rc_str_bytes name.now)) (found_part (option_copied found.entry))) }
+    ensures restricted { IfOk result (λ p. is_restricted_part (partial_view p) ≡ true) }
+{
+    match found {
+        Some(part) => Ok(part.clone()?),
+        None => unknown_tag(alloc, entity.uid(), name),
     }
 }
 

@@ -1,13 +1,12 @@
 //! What may be known of a request and of the entities of a store, fact by fact.
 ghost use Rattle.std.specs.Prelude.{◌≡◌, [], ◌∷◌, ◌++◌, map, IfOk, OnOk};
 ghost use Rattle.std.specs.Rc.{rc_str_bytes};
-ghost use Rattle.cedar_model.specs.Settings.{names_of};
 ghost use Rattle.cedar_names.specs.Names.{uid_name};
-ghost use Rattle.cedar_layers.specs.Stores.{entity_name, entity_view};
+ghost use Rattle.cedar_layers.specs.Stores.{entity_name};
 ghost use Rattle.cedar_reasons.specs.Facts.{fact_view, facts_view, is_principal, is_action, is_resource, is_context};
-ghost use Rattle.cedar_reasons.specs.Facts.{is_absence, is_entity, is_attribute, is_same, is_kept, is_one_of, every_fact};
-ghost use Rattle.cedar_reasons.specs.Facts.{lent};
-ghost use Rattle.cedar_reasons.specs.Facts.{facts_of_entity, of_attribute, no_entity_facts};
+ghost use Rattle.cedar_reasons.specs.Facts.{is_absence, is_entity, is_attribute, is_tag, is_same, is_kept, is_one_of};
+ghost use Rattle.cedar_reasons.specs.Facts.{lent, facts_of_entity, attribute_facts, tag_facts, of_attribute, of_tag};
+ghost use Rattle.cedar_reasons.specs.Facts.{no_entity_facts, every_fact};
 
 use cedar_fallible::add_last;
 use cedar_layers::expressions::EntityUID;
@@ -28,14 +27,16 @@ pub enum Fact<'x> {
     Context,
     /// That there is no entity but those of the store.
     NoOtherEntity,
-    /// That the entity is as it is stored: its ancestors, its tags, and the names of its attributes.
+    /// That the entity is as it is stored: its ancestors, and the names of its attributes and tags.
     Entity(&'x EntityUID),
     /// The value of the entity's attribute of this name.
     Attribute(&'x EntityUID, &'x RcStr),
+    /// The value of the entity's tag of this name.
+    Tag(&'x EntityUID, &'x RcStr),
 }
 
 /// Each fact of a request over the store of these entities: those of the request, that there is no other entity, and
-/// then entity by entity what is stored of it and each attribute's value. Refuses only if out of memory.
+/// then entity by entity what is stored of it, each attribute's value and each tag's. Refuses only if out of memory.
 pub fn all_facts<'x>(alloc: Global, entities: &[&'x Entity]) -> Result<Vec<Fact<'x>>, AllocError>
     ensures { IfOk result (λ v. facts_view v.items ≡ every_fact (lent entities.now)) }
 {
@@ -65,12 +66,13 @@ fn add_entity<'x>(facts: &mut Vec<Fact<'x>>, entity: &'x Entity) -> Result<(), A
 {
     add_last(facts, Fact::Entity(entity.uid()))?;
     add_attributes(facts, entity)?;
+    add_tags(facts, entity)?;
     Ok(())
 }
 
 fn add_attributes<'x>(facts: &mut Vec<Fact<'x>>, entity: &'x Entity) -> Result<(), AllocError>
     ensures { OnOk result (facts_view facts.new.items ≡ facts_view facts.old.items
-        ++ map (of_attribute (entity_name entity.now)) (names_of (entity_view entity.now).attributes)) }
+        ++ attribute_facts entity.now) }
 {
     'names: for name in entity.keys() {
         add_attribute(facts, entity, name)?;
@@ -87,6 +89,27 @@ fn add_attribute<'x>(
         ++ of_attribute (entity_name entity.now) (rc_str_bytes name.now) ∷ []) }
 {
     add_last(facts, Fact::Attribute(entity.uid(), name))?;
+    Ok(())
+}
+
+fn add_tags<'x>(facts: &mut Vec<Fact<'x>>, entity: &'x Entity) -> Result<(), AllocError>
+    ensures { OnOk result (facts_view facts.new.items ≡ facts_view facts.old.items ++ tag_facts entity.now) }
+{
+    'names: for name in entity.tag_keys() {
+        add_tag(facts, entity, name)?;
+    }
+    Ok(())
+}
+
+fn add_tag<'x>(
+    facts: &mut Vec<Fact<'x>>,
+    entity: &'x Entity,
+    name: &'x RcStr,
+) -> Result<(), AllocError>
+    ensures { OnOk result (facts_view facts.new.items ≡ facts_view facts.old.items
+        ++ of_tag (entity_name entity.now) (rc_str_bytes name.now) ∷ []) }
+{
+    add_last(facts, Fact::Tag(entity.uid(), name))?;
     Ok(())
 }
 
@@ -115,6 +138,7 @@ fn is_same(wanted: Fact<'_>, fact: Fact<'_>) -> bool
         Fact::NoOtherEntity => is_no_other(fact),
         Fact::Entity(uid) => is_entity(uid, fact),
         Fact::Attribute(uid, name) => is_attribute(uid, name, fact),
+        Fact::Tag(uid, name) => is_tag(uid, name, fact),
     }
 }
 
@@ -129,6 +153,7 @@ fn is_principal(fact: Fact<'_>) -> bool
         Fact::NoOtherEntity => false,
         Fact::Entity(_) => false,
         Fact::Attribute(_, _) => false,
+        Fact::Tag(_, _) => false,
     }
 }
 
@@ -143,6 +168,7 @@ fn is_action(fact: Fact<'_>) -> bool
         Fact::NoOtherEntity => false,
         Fact::Entity(_) => false,
         Fact::Attribute(_, _) => false,
+        Fact::Tag(_, _) => false,
     }
 }
 
@@ -157,6 +183,7 @@ fn is_resource(fact: Fact<'_>) -> bool
         Fact::NoOtherEntity => false,
         Fact::Entity(_) => false,
         Fact::Attribute(_, _) => false,
+        Fact::Tag(_, _) => false,
     }
 }
 
@@ -171,6 +198,7 @@ fn is_context(fact: Fact<'_>) -> bool
         Fact::NoOtherEntity => false,
         Fact::Entity(_) => false,
         Fact::Attribute(_, _) => false,
+        Fact::Tag(_, _) => false,
     }
 }
 
@@ -185,6 +213,7 @@ fn is_no_other(fact: Fact<'_>) -> bool
         Fact::NoOtherEntity => true,
         Fact::Entity(_) => false,
         Fact::Attribute(_, _) => false,
+        Fact::Tag(_, _) => false,
     }
 }
 
@@ -199,6 +228,7 @@ fn is_entity(uid: &EntityUID, fact: Fact<'_>) -> bool
         Fact::NoOtherEntity => false,
         Fact::Entity(other) => uid == other,
         Fact::Attribute(_, _) => false,
+        Fact::Tag(_, _) => false,
     }
 }
 
@@ -213,5 +243,21 @@ fn is_attribute(uid: &EntityUID, name: &RcStr, fact: Fact<'_>) -> bool
         Fact::NoOtherEntity => false,
         Fact::Entity(_) => false,
         Fact::Attribute(other, other_name) => uid == other && name == other_name,
+        Fact::Tag(_, _) => false,
+    }
+}
+
+fn is_tag(uid: &EntityUID, name: &RcStr, fact: Fact<'_>) -> bool
+    ensures { result ≡ is_tag (uid_name uid.now) (rc_str_bytes name.now) (fact_view fact.entry) }
+{
+    match fact {
+        Fact::Principal => false,
+        Fact::Action => false,
+        Fact::Resource => false,
+        Fact::Context => false,
+        Fact::NoOtherEntity => false,
+        Fact::Entity(_) => false,
+        Fact::Attribute(_, _) => false,
+        Fact::Tag(other, other_name) => uid == other && name == other_name,
     }
 }

@@ -17,5 +17,5 @@ mod names;
 mod requests;
 
 pub use facts::{Fact, all_facts, is_kept};
-pub use names::value_name;
+pub use names::{tag_name, value_name};
 pub use requests::reduced;

@@ -130,6 +130,12 @@ fn put_fact(answer: &mut Answer, fact: Fact<'_>) {
             answer.put(".");
             answer.put(name.as_str());
         }
+        Fact::Tag(uid, name) => {
+            answer.show(uid);
+            answer.put(".getTag(");
+            answer.put(name.as_str());
+            answer.put(")");
+        }
     }
 }
 

@@ -2,10 +2,10 @@
 ghost use Rattle.std.specs.Prelude.{◌≡◌, ◌≢◌, ◌≤◌, true, false, Some, IfOk, IfErr};
 ghost use Rattle.cedar_model.specs.Terms.{record_of};
 ghost use Rattle.cedar_model.specs.Values.{record_represented};
-ghost use Rattle.cedar_model.specs.Shapes.{is_restricted};
+ghost use Rattle.cedar_model.specs.Shapes.{is_restricted, are_restricted_at, have_unknown_at};
 ghost use Rattle.cedar_model.specs.Failures.{value};
 ghost use Rattle.cedar_model.specs.Failures as model;
-ghost use Rattle.cedar_model.specs.Settings.{Setting, known_context};
+ghost use Rattle.cedar_model.specs.Settings.{Setting, known_context, residual_context};
 ghost use Rattle.cedar_model.specs.Rules.{Meets};
 ghost use Rattle.cedar_model.specs.Agreement.{height};
 ghost use Rattle.cedar_model.specs.Restricted.{IsSoundPart};
@@ -99,6 +99,18 @@ impl Context {
             pairs: ContextPairs::Values(ContextValues::of_shared(values)),
             alloc,
         }
+    }
+
+    /// The context of these expressions under their names, of which one or more hold an unknown. They are restricted:
+    /// literals, unknowns, sets, records and calls of extension functions alone. It takes no memory: `alloc` is for the
+    /// record that the context is walked as.
+    pub fn from_residual(alloc: Global, pairs: BTreeMap<RcStr, Expr>) -> Context
+        requires restricted { are_restricted_at (fields_view pairs.entries) ≡ true }
+        requires unknown { have_unknown_at (fields_view pairs.entries) ≡ true }
+        ensures { context_view result ≡ residual_context (fields_view pairs.entries) }
+    {
+        let residual = ResidualPairs::new(pairs);
+        Context::of_residual(alloc, residual)
     }
 
     // The context of these pairs, of which one or more hold an unknown.
