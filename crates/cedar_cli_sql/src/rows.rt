@@ -18,10 +18,9 @@ use std::rc::RcStr;
 pub(crate) fn row_of(alloc: Global, request: &Request) -> Result<Option<Unknown>, AllocError>
     ensures { IfOk result (λ u. option_map row_term u ≡ row_in (request_view request.now)) }
 {
-    match unknown_of(alloc, request.resource(), "resource") {
-        Ok(Some(row)) => Ok(Some(row)),
-        Ok(None) => unknown_of(alloc, request.principal(), "principal"),
-        Err(error) => Err(error),
+    match unknown_of(alloc, request.resource(), "resource")? {
+        Some(row) => Ok(Some(row)),
+        None => unknown_of(alloc, request.principal(), "principal"),
     }
 }
 
