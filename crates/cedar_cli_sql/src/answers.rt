@@ -27,7 +27,7 @@ use cedar_policy_core::extensions::Extensions;
 use cedar_policy_core::filters::{NoPlan, Plan};
 use cedar_policy_core::parser::ParsedPolicies;
 use cedar_sql_columns::SqlTable;
-use std::alloc::{AllocError, Global};
+use std::alloc::Global;
 
 /// The policies that are planned, the text that they stand in, the table, in which way they are asked, and whether the
 /// rows are candidates.
@@ -273,7 +273,7 @@ fn plan_for(
         Ok(plan) => {
             let printed = print_told(alloc, planning, &plan, warnings);
             drop(plan);
-            Ok(printed?)
+            printed
         }
         Err(NoPlan::RecursionLimit) => Err(at_limit(alloc)),
         Err(NoPlan::Memory) => Err(Refusal::Memory),
@@ -295,8 +295,9 @@ fn print_told(
     planning: Planning<'_>,
     plan: &Plan,
     mut warnings: String,
-) -> Result<Printed, AllocError>
-    ensures { IfOk result (IsPrintedOf planning.entry.table.now planning.entry.is_candidates plan.now) }
+) -> Result<Printed, Refusal>
+    ensures printed { IfOk result (IsPrintedOf planning.entry.table.now planning.entry.is_candidates plan.now) }
+    ensures memory { IfErr result (IsToldFor ⊥) }
 {
     push_rest(
         alloc,
@@ -305,11 +306,11 @@ fn print_told(
         plan,
         &mut warnings,
     )?;
-    print_plan(
+    Ok(print_plan(
         alloc,
         planning.table,
         planning.is_candidates,
         plan,
         warnings,
-    )
+    )?)
 }

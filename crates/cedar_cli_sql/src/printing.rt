@@ -1,6 +1,6 @@
 //! An expression as it is printed.
 ghost use Rattle.std.specs.Prelude.{◌≡◌, IfOk, string_bytes};
-ghost use Rattle.cedar_cli_sql.specs.Planned.{first_line, sql_line, IsTermOf, IsPrintedOf};
+ghost use Rattle.cedar_cli_sql.specs.Planned.{first_line, sql_line, IsTermOf, IsPrintedOf, IsOfAllowed, IsOfCandidates};
 
 use cedar_cli::Printed;
 use cedar_policy_core::filters::Plan;
@@ -33,18 +33,35 @@ fn plan_term(
 ) -> Result<SqlTerm, AllocError>
     ensures { IfOk result (IsTermOf is_candidates plan.now table.now.columns) }
 {
+    if is_candidates {
+        candidates_term(alloc, table, plan)
+    } else {
+        allowed_term(alloc, table, plan)
+    }
+}
+
+fn allowed_term(alloc: Global, table: &SqlTable, plan: &Plan) -> Result<SqlTerm, AllocError>
+    ensures { IfOk result (IsOfAllowed plan.now table.now.columns) }
+{
     let terms = sql_of_plan(alloc, plan, &table.columns)?;
     let PlanTerms {
         allowed,
         candidates,
     } = terms;
-    if is_candidates {
-        drop(allowed);
-        Ok(candidates)
-    } else {
-        drop(candidates);
-        Ok(allowed)
-    }
+    drop(candidates);
+    Ok(allowed)
+}
+
+fn candidates_term(alloc: Global, table: &SqlTable, plan: &Plan) -> Result<SqlTerm, AllocError>
+    ensures { IfOk result (IsOfCandidates plan.now table.now.columns) }
+{
+    let terms = sql_of_plan(alloc, plan, &table.columns)?;
+    let PlanTerms {
+        allowed,
+        candidates,
+    } = terms;
+    drop(allowed);
+    Ok(candidates)
 }
 
 fn print_term(
