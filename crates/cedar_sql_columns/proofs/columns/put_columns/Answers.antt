@@ -21,7 +21,7 @@ members-preserved c =
     let x = c.member-item.result in
     let here : drop l.member-index xs ≡ x ∷ drop (l.member-index + 1) xs = drop_more xs l.member-index x (omega arith) ∙ ap (λ y. y ∷ drop (l.member-index + 1) xs) (sym c.member-item.is) in
     let done = map column_view l.columns.items in
-    let more : l.place + 1 ≡ l.first + (l.member-index + 1) = omega (arith, l.invariant.0) in (
+    let more : l.place + 1 ≡ c.args.first + (l.member-index + 1) = omega (arith, l.invariant.0) in (
       more,
       one_more_done _ done (under (at_key x.0.now) (column_said l.place (value_view x.1))) (columns_said (l.place + 1) (members_view (drop (l.member-index + 1) xs))) _
           (l.invariant.1 ∙ ap (λ (ys : List (Bor (List ℕ) × Value Global)). made_of (λ cs. done ++ cs) (columns_said l.place (members_view ys))) here) c.in_ok-put_column.ensures.said,
