@@ -1,5 +1,5 @@
 -- Lists that are read.
-use Rattle.std.proofs.Common.{◌≡◌, List, [], ◌∷◌, ◌++◌, map, refl, sym, ap, ◌∙◌, append_assoc}
+use Rattle.std.proofs.Common.{◌≡◌, List, [], ◌∷◌, ◌++◌, map, sym, ap, ◌∙◌}
 use Rattle.std.proofs.lemmas.List.{map-append}
 use Rattle.cedar_sql_columns.specs.Refusals.{Said, made_of}
 use Rattle.cedar_sql_columns.proofs.Refused.{none_done}

@@ -1,7 +1,7 @@
 -- The shapes of objects: their one member, or the values at keys that they have, and no others.
-use Rattle.std.specs.Prelude.{ℕ, ◌==◌, length, if◌then◌else◌, Option, Some, None, Ok, option_map, codes}
+use Rattle.std.specs.Prelude.{ℕ, ◌==◌, length, if◌then◌else◌, Option, Some, None, Ok, option_map}
 use Rattle.json.specs.Json.{Json}
-use Rattle.json.specs.Find.{as_object, as_array, as_str, get}
+use Rattle.json.specs.Find.{as_object, as_str, get}
 use Rattle.json.specs.Strict.{keys}
 use Rattle.cedar_model.specs.Terms.{Text}
 use Rattle.cedar_sql_columns.specs.declared.errors.RefusalReason.TheVariants as reasons

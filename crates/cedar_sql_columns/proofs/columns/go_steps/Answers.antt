@@ -1,6 +1,6 @@
-use Rattle.std.proofs.Common.{◌≡◌, ℕ, ◌+◌, ◌∷◌, List, drop, refl, sym, ap, ◌∙◌, arith, Global}
+use Rattle.std.proofs.Common.{◌≡◌, ℕ, ◌+◌, ◌∷◌, List, drop, sym, ap, ◌∙◌, arith, Global}
 use Rattle.std.proofs.lemmas.List.{drop_more}
-use Rattle.json.specs.Value.{value_view, items_view}
+use Rattle.json.specs.Value.{items_view}
 use Rattle.json.specs.declared.value.Value.{Value}
 use Rattle.cedar_sql_columns.specs.Refusals.{and_then}
 use Rattle.cedar_sql_columns.specs.Said.{steps_said}
