@@ -1,5 +1,5 @@
 -- What is planned of texts, and what is printed of it.
-use Rattle.std.specs.Prelude.{◌≡◌, ◌++◌, Bool, true, false, List, [], Some, codes, string_bytes}
+use Rattle.std.specs.Prelude.{◌≡◌, ◌++◌, Bool, true, false, [], Some, codes, string_bytes}
 use Rattle.cedar_model.specs.Terms.{Text}
 use Rattle.cedar_model.specs.World as world
 use Rattle.cedar_model.specs.Rules.{StoredCalls}

@@ -1,4 +1,4 @@
-use Rattle.std.proofs.Common.{◌≡◌, true, sym, ◌∙◌}
+use Rattle.std.proofs.Common.{sym, ◌∙◌}
 use Rattle.cedar_cli_sql.specs.Planned.{IsPlannedFor, IsPlannedOf}
 use Rattle.cedar_cli_sql.proofs.Composed.{of_ok}
 use Rattle.cedar_cli_sql.proofs.answers.plan_row.Goals as goal

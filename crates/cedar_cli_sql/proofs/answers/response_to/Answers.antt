@@ -1,5 +1,5 @@
 use Rattle.std.proofs.Common.{◌≡◌, subst, ◌∙◌}
-use Rattle.cedar_model.specs.Configurations.{Configuration, configured}
+use Rattle.cedar_model.specs.Configurations.{configured}
 use Rattle.cedar_model.specs.Settings.{shallow}
 use Rattle.cedar_decisions.specs.Decisions.{mode_view}
 use Rattle.cedar_extensions.specs.Extensions.{extensions_view, calls_of}
