@@ -181,9 +181,24 @@ fn partially_authorize<'a>(alloc: Global) -> Result<Command<'a>, AllocError> {
         .arg(step(alloc))?
         .arg(partial_step)?
         .arg(json(alloc))?
+        .arg(sql(alloc)?)?
+        .arg(candidates(alloc)?)?
         .arg(principal_type.conflicts_with("principal")?)?
         .arg(resource_type.conflicts_with("resource")?)?;
     with_request(alloc, command)
+}
+
+fn sql<'a>(alloc: Global) -> Result<Arg<'a>, AllocError> {
+    let help =
+        "Prints the SQL of the rows that are allowed, where each is an entity that is not given: the columns, in JSON";
+    option(alloc, "sql", "COLUMNS", help)
+        .conflicts_with("step")?
+        .conflicts_with("json")
+}
+
+fn candidates<'a>(alloc: Global) -> Result<Arg<'a>, AllocError> {
+    let help = "With --sql those that may be allowed: what is left of some policies SQL can't say";
+    flag(alloc, "candidates", help).requires_arg("sql")
 }
 
 // Each use has one value or two.

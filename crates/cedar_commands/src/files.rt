@@ -19,6 +19,7 @@ const FILE_OPTIONS: [&str; 6] = [
     "request-json",
     "requests",
     "entities",
+    "sql",
 ];
 
 /// A file's name, and its text.
@@ -44,6 +45,7 @@ pub(crate) struct Texts {
     request: Option<File>,
     requests: Option<File>,
     entities: Option<File>,
+    columns: Option<File>,
     steps: Vec<StepFiles>,
 }
 
@@ -60,6 +62,7 @@ impl Texts {
         let request = text_of(rt, matches.get_str("request-json"))?;
         let requests = text_of(rt, matches.get_str("requests"))?;
         let entities = text_of(rt, matches.get_str("entities"))?;
+        let columns = text_of(rt, matches.get_str("sql"))?;
         let steps = step_files(rt, matches)?;
         Ok(Texts {
             policies,
@@ -68,6 +71,7 @@ impl Texts {
             request,
             requests,
             entities,
+            columns,
             steps,
         })
     }
@@ -103,6 +107,11 @@ impl Texts {
     /// The entities, if their file is named.
     pub(crate) fn entities(&self) -> Option<Source<'_>> {
         source(&self.entities)
+    }
+
+    /// The columns of a table, if their file is named.
+    pub(crate) fn columns(&self) -> Option<Source<'_>> {
+        source(&self.columns)
     }
 
     /// The steps, in their order; whether there may be more entities than those of a step, and how many ancestors these

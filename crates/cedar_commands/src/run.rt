@@ -6,6 +6,7 @@ use cedar_cli::{
     authorize_each, check_format, check_policies, check_strictly, evaluate_expression,
     format_policies, partially_authorize, translate_to_json,
 };
+use cedar_cli_sql::plan_as_sql;
 use cedar_policy_core::ast::{Extension, ExtensionFunction, Name};
 use cedar_policy_core::extensions::Extensions;
 use cedar_regression::compare_policies;
@@ -106,7 +107,10 @@ fn run_with(
     match name {
         "diff" => compare(alloc, &asked, matches, texts),
         "authorize" => decide(alloc, &asked, matches, texts),
-        "partially-authorize" => partial(alloc, &asked, matches, texts),
+        "partially-authorize" => match texts.columns() {
+            Some(columns) => plan_with_unknown(alloc, policies, &asked, columns, matches),
+            None => partial(alloc, &asked, matches, texts),
+        },
         "evaluate" => {
             let is_json = matches.get_flag("json");
             evaluate_expression(alloc, expression(matches), &asked, limit(matches), is_json)
@@ -200,6 +204,31 @@ fn with_unknown(
     let all = vec![in alloc; Extension::new(name, functions, Vec::new(alloc))]?;
     match Extensions::with_standard(alloc, all.as_slice()) {
         Ok(extensions) => partially_authorize(alloc, &extensions, policies, asked, steps, way),
+        Err(_) => Err(Refusal::Memory),
+    }
+}
+
+fn plan_with_unknown(
+    alloc: Global,
+    policies: Source<'_>,
+    asked: &Asked<'_, '_>,
+    columns: Source<'_>,
+    matches: &ArgMatches<'_>,
+) -> Result<Printed, Refusal> {
+    let (way, is_candidates) = (way(matches), matches.get_flag("candidates"));
+    let name = Name::new(RcStr::from_str(alloc, "partial_evaluation")?, None);
+    let functions = vec![in alloc; ExtensionFunction::unknown(alloc)?]?;
+    let all = vec![in alloc; Extension::new(name, functions, Vec::new(alloc))]?;
+    match Extensions::with_standard(alloc, all.as_slice()) {
+        Ok(extensions) => plan_as_sql(
+            alloc,
+            &extensions,
+            policies,
+            asked,
+            columns,
+            way,
+            is_candidates,
+        ),
         Err(_) => Err(Refusal::Memory),
     }
 }

@@ -1,0 +1,5 @@
+pub mod Views
+pub mod Members
+pub mod Refused
+pub mod Lists
+pub mod TextLemmas

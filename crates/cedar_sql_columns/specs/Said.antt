@@ -1,0 +1,169 @@
+-- What the JSON of a table says: the names of its columns, and what each holds.
+use Rattle.std.specs.Prelude.{ℕ, ◌+◌, Bool, true, false, List, [], ◌∷◌, ◌++◌, if◌then◌else◌, Option, Some, None, Ok}
+use Rattle.std.specs.Prelude.{bytes_eq, codes}
+use Rattle.json.specs.Json.{Json, Items, no_items, item, Members, no_members, member}
+use Rattle.json.specs.Find.{as_str, as_array, as_object}
+use Rattle.json.specs.Strict.{keys}
+use Rattle.cedar_model.specs.Terms.{Text}
+use Rattle.cedar_sql_columns.specs.declared.errors.RefusalReason.TheVariants as reasons
+use Rattle.cedar_sql_columns.specs.Paths.{at_key, at_index}
+use Rattle.cedar_sql_columns.specs.Refusals.{Said, refused, under, before, made_of, and_then}
+use Rattle.cedar_sql_columns.specs.Shapes.{one_at, two_at, three_at, text_said}
+
+-- the text at this key
+abbrev pub text_under : Text → Json → Said Text
+text_under k j = under (at_key k) (text_said j)
+
+-- ---- what a column holds
+
+pub data Held : Type 0 where
+  a_bool : Held
+  a_long : Held
+  a_string : Held
+  a_record : Held
+  an_entity_of : Text → Held
+
+abbrev pub held_named : Text → Said Held
+held_named t =
+    if bytes_eq t (codes "Bool") then Ok a_bool else (
+    if bytes_eq t (codes "Long") then Ok a_long else (
+    if bytes_eq t (codes "String") then Ok a_string else (
+    if bytes_eq t (codes "Record") then Ok a_record else
+    refused reasons.NotHeld)))
+
+-- an entity of the type at `entity`, the one member
+abbrev pub entity_said : Json → Said Held
+entity_said j = made_of an_entity_of (and_then (text_under (codes "entity")) (one_at (codes "entity") j))
+
+abbrev pub held_by : Json → Option Text → Said Held
+held_by j None = entity_said j
+held_by j (Some t) = held_named t
+
+-- one of the four words, or an entity
+abbrev pub held_said : Json → Said Held
+held_said j = held_by j (as_str j)
+
+-- ---- which attribute it holds
+
+-- an entity, or an attribute of it or of a record in it; or what is none of these
+pub data Place : Type 0 where
+  the_entity : Place
+  attribute_in : Place → Text → Place
+  elsewhere : Place
+
+abbrev pub is_entity : Place → Bool
+is_entity the_entity = true
+is_entity (attribute_in p k) = false
+is_entity elsewhere = false
+
+-- the attribute that the text of this index names
+abbrev pub step_said : Place → ℕ → Json → Said Place
+step_said p n j = made_of (attribute_in p) (under (at_index n) (text_said j))
+
+-- the attribute that texts lead to, the first of this index
+abbrev pub steps_said : Place → ℕ → Items → Said Place
+steps_said p n no_items = Ok p
+steps_said p n (item j js) = and_then (λ q. steps_said q (n + 1) js) (step_said p n j)
+
+abbrev pub some_attribute : Place → Said Place
+some_attribute p = if is_entity p then refused reasons.NotAnAttribute else Ok p
+
+abbrev pub attribute_by : Option Items → Said Place
+attribute_by None = refused reasons.NotAnArray
+attribute_by (Some js) = and_then some_attribute (steps_said the_entity 0 js)
+
+-- an array of texts, of which there is one at least
+abbrev pub attribute_said : Json → Said Place
+attribute_said j = attribute_by (as_array j)
+
+-- ---- columns
+
+-- a column at a place of the row
+pub record SaidColumn : Type 0 where
+  pub attribute : Place
+  pub holds : Held
+  pub place : ℕ
+
+abbrev pub column_of : ℕ → Place → Held → SaidColumn
+column_of n p h = record { attribute = p; holds = h; place = n }
+
+abbrev pub with_attribute : ℕ → Json → Place → Said SaidColumn
+with_attribute n j p = made_of (column_of n p) (under (at_key (codes "holds")) (held_said j))
+
+abbrev pub column_parts : ℕ → Json × Json → Said SaidColumn
+column_parts n p = and_then (with_attribute n p.1) (under (at_key (codes "attribute")) (attribute_said p.0))
+
+-- an object of an attribute and of what is held
+abbrev pub column_said : ℕ → Json → Said SaidColumn
+column_said n j = and_then (column_parts n) (two_at (codes "attribute") (codes "holds") j)
+
+-- those of an object's members, the first at this place
+abbrev pub columns_said : ℕ → Members → Said (List SaidColumn)
+columns_said n no_members = Ok []
+columns_said n (member k j ms) = before (under (at_key k) (column_said n j)) (columns_said (n + 1) ms)
+
+-- ---- tables
+
+-- the type of all entities, or the name of the column that holds the type of each
+pub data TypeSaid : Type 0 where
+  all_of : Text → TypeSaid
+  held_in : Text → TypeSaid
+
+abbrev pub type_by : Json → Option Text → Said TypeSaid
+type_by j None = made_of held_in (and_then (text_under (codes "column")) (one_at (codes "column") j))
+type_by j (Some t) = Ok (all_of t)
+
+-- a text, or the name at `column`, the one member
+abbrev pub type_said : Json → Said TypeSaid
+type_said j = type_by j (as_str j)
+
+-- the type of all entities, or the place of the column that holds it
+pub data TypesOf : Type 0 where
+  of_one : Text → TypesOf
+  of_several : ℕ → TypesOf
+
+abbrev pub types_of : TypeSaid → TypesOf
+types_of (all_of t) = of_one t
+types_of (held_in c) = of_several 2
+
+abbrev pub type_names : TypeSaid → List Text
+type_names (all_of t) = []
+type_names (held_in c) = c ∷ []
+
+-- the place of the first attribute
+abbrev pub first_place : TypeSaid → ℕ
+first_place (all_of t) = 2
+first_place (held_in c) = 3
+
+-- the columns of a table: what each is called, from the rowid on, and what they hold
+pub record SaidTable : Type 0 where
+  pub names : List Text
+  pub id : ℕ
+  pub types : TypesOf
+  pub attributes : List SaidColumn
+
+-- the rowid stands first, then the id and the type, if there is a column for it, then the attributes
+abbrev pub table_of : Text → TypeSaid → List Text → List SaidColumn → SaidTable
+table_of id t ks cs = record {
+  names = codes "rowid" ∷ id ∷ (type_names t ++ ks);
+  id = 1;
+  types = types_of t;
+  attributes = cs;
+}
+
+abbrev pub with_members : Text → TypeSaid → Option Members → Said SaidTable
+with_members id t None = refused reasons.NotAnObject
+with_members id t (Some ms) = made_of (table_of id t (keys ms)) (columns_said (first_place t) ms)
+
+abbrev pub with_type : Text → Json → TypeSaid → Said SaidTable
+with_type id j t = under (at_key (codes "columns")) (with_members id t (as_object j))
+
+abbrev pub with_id : Json → Json → Text → Said SaidTable
+with_id t j id = and_then (with_type id j) (under (at_key (codes "type")) (type_said t))
+
+abbrev pub table_parts : Json × Json × Json → Said SaidTable
+table_parts p = and_then (with_id p.1 p.2) (text_under (codes "id") p.0)
+
+-- an object of an id, of a type and of columns
+abbrev pub table_said : Json → Said SaidTable
+table_said j = and_then table_parts (three_at (codes "id") (codes "type") (codes "columns") j)

@@ -1,0 +1,3 @@
+@id("adult")
+permit(principal, action, resource)
+when { principal.age >= 18 };
