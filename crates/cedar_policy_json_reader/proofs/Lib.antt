@@ -6,3 +6,4 @@ pub mod Longs
 pub mod Levels
 pub mod Annotated
 pub mod TextLemmas
+pub mod Filled
