@@ -27,15 +27,18 @@ pub record PolicySetView : Type 0 where
 abbrev pub set_view : ReadPolicies → PolicySetView
 set_view r = record { policies = policies_view r.policies; templates = map policy_view r.templates.items }
 
--- no other policy and no template has this id
-abbrev pub if_new : {T : Type 0} → Text → List PolicyView → List PolicyView → Said T → Said T
-if_new k done others s = if has_id k done || has_id k others then refused reasons.RepeatedId else s
+-- the id, which no policy of these and no other has
+abbrev pub new_id : List PolicyView → List PolicyView → Text → Said Text
+new_id done others k = if has_id k done || has_id k others then refused reasons.RepeatedId else Ok k
 
 -- ---- policies, and templates, under their ids
 
+abbrev pub policy_of : Bool → Reading → Json → Text → Said PolicyView
+policy_of is_open says j k = policy_by is_open says k j
+
 -- a policy, or where it is open a template, under an id that none before it has
 abbrev pub member_said : Bool → Reading → List PolicyView → List PolicyView → Text → Json → Said PolicyView
-member_said is_open says done others k j = if_new k done others (policy_by is_open says k j)
+member_said is_open says done others k j = and_then (policy_of is_open says j) (new_id done others k)
 
 -- behind those that are read already
 abbrev pub members_from : Bool → Reading → List PolicyView → List PolicyView → Members → Said (List PolicyView)
@@ -94,7 +97,7 @@ abbrev pub template_said : List PolicyView → Json → Said PolicyView
 template_said templates j = and_then (known_template templates) (text_said j)
 
 abbrev pub new_id_said : List PolicyView → List PolicyView → Json → Said Text
-new_id_said done templates j = and_then (λ k. if_new k done templates (Ok k)) (text_said j)
+new_id_said done templates j = and_then (new_id done templates) (text_said j)
 
 abbrev pub template_and_id : List PolicyView → List PolicyView → Json → Json → Said (PolicyView × Text)
 template_and_id done templates t i =

@@ -1,9 +1,10 @@
 #![tactic(auto, using(crate::proofs::Views::views, crate::proofs::Refused::refusals, crate::proofs::Lists::lists))]
 //! Ids, no two of which are one.
-ghost use Rattle.std.specs.Prelude.{◌≡◌, ◌∷◌, [], ◌++◌, Ok, map, OnOk, IfOk, IfErr};
+ghost use Rattle.std.specs.Prelude.{◌≡◌, ◌||◌, ◌∷◌, [], ◌++◌, Ok, map, OnOk, IfOk, IfErr};
 ghost use Rattle.cedar_layers.specs.Policies.{policy_view, policy_id_text};
 ghost use Rattle.cedar_policy_json_reader.specs.PolicySets as sets;
 ghost use Rattle.cedar_policy_json_reader.specs.Refusals.{IsRefusal, IsMemory};
+ghost use Rattle.cedar_policy_json_reader.specs.Templates as templates;
 
 use crate::errors::{PolicyJsonError, RefusalReason};
 use crate::templates::has_id;
@@ -18,13 +19,13 @@ pub(crate) fn new_id(
     policies: &[Policy],
     others: &[Policy],
 ) -> Result<PolicyID, PolicyJsonError>
-    ensures said { IfOk result (λ i. sets.if_new text.now (map policy_view policies.now)
-        (map policy_view others.now) (Ok text.now) ≡ Ok (policy_id_text i)) }
-    ensures refused { IfErr result (IsRefusal (sets.if_new text.now (map policy_view policies.now)
-        (map policy_view others.now) (Ok text.now))) }
+    ensures said { IfOk result (λ i. sets.new_id (map policy_view policies.now) (map policy_view others.now)
+        text.now ≡ Ok (policy_id_text i)) }
+    ensures refused { IfErr result
+        (IsRefusal (sets.new_id (map policy_view policies.now) (map policy_view others.now) text.now)) }
 {
     match id_of(alloc, text) {
-        Ok(id) => if has_id(policies, &id) || has_id(others, &id) {
+        Ok(id) => if is_taken(&id, policies, others) {
             drop(id);
             Err(PolicyJsonError::refusal(alloc, RefusalReason::RepeatedId))
         } else {
@@ -32,6 +33,13 @@ pub(crate) fn new_id(
         },
         Err(error) => Err(error),
     }
+}
+
+fn is_taken(id: &PolicyID, policies: &[Policy], others: &[Policy]) -> bool
+    ensures { result ≡ (templates.has_id (policy_id_text id.now) (map policy_view policies.now)
+        || templates.has_id (policy_id_text id.now) (map policy_view others.now)) }
+{
+    has_id(policies, id) || has_id(others, id)
 }
 
 /// The id of this text.

@@ -1,6 +1,6 @@
 #![tactic(auto, using(crate::proofs::Views::views, crate::proofs::Refused::refusals, crate::proofs::Members::members))]
 //! Links: templates with entities in their slots.
-ghost use Rattle.std.specs.Prelude.{◌≡◌, ◌+◌, Ok, map, option_map, codes, OnOk, IfOk, IfErr};
+ghost use Rattle.std.specs.Prelude.{◌≡◌, ◌+◌, ◌≤◌, Ok, map, option_map, codes, OnOk, IfOk, IfErr};
 ghost use Rattle.json.specs.Value.{value_view, items_view};
 ghost use Rattle.cedar_names.specs.Names.{uid_name};
 ghost use Rattle.cedar_layers.specs.Policies.{policy_view, policy_id_text, slots_view, linked};
@@ -283,6 +283,7 @@ fn counted_values(
 
 fn one_if(test: bool) -> usize
     ensures { result ≡ sets.one_if test }
+    ensures small { result ≤ 1 }
 {
     if test { 1 } else { 0 }
 }

@@ -1,10 +1,11 @@
 #![tactic(auto, using(crate::proofs::Views::views, crate::proofs::Refused::refusals, crate::proofs::Members::members))]
 //! Sets of policies, with templates and links.
-ghost use Rattle.std.specs.Prelude.{◌≡◌, ◌+◌, [], Ok, map, OnOk, IfOk, IfErr};
+ghost use Rattle.std.specs.Prelude.{◌≡◌, ◌≤◌, ◌+◌, [], Ok, map, OnOk, IfOk, IfErr};
 ghost use Rattle.json.specs.Find.{get};
 ghost use Rattle.json.specs.Value.{value_view, members_view};
 ghost use Rattle.cedar_functions.specs.Functions.{knowledge};
 ghost use Rattle.cedar_layers.specs.Policies.{policy_view};
+ghost use Rattle.cedar_layers.specs.PolicySets.{policies_view};
 ghost use Rattle.cedar_policy_json_reader.specs.Expressions.{expression_said};
 ghost use Rattle.cedar_policy_json_reader.specs.Lists.{IsOneMore};
 ghost use Rattle.cedar_policy_json_reader.specs.Paths.{at_key};
@@ -70,6 +71,7 @@ fn section_count(json: &Value<'_>) -> usize
 
 fn one_if_there(json: &Value<'_>, key: &str) -> usize
     ensures { result ≡ sets.one_if_there (get key.now (value_view json.now)) }
+    ensures small { result ≤ 1 }
 {
     match json.get(key) {
         Some(_) => 1,
@@ -176,10 +178,7 @@ fn set_of_all(
         (IsRefusal (sets.set_of_all (map policy_view templates.items) (map policy_view policies.items))) }
 {
     match PolicySet::try_from_iter(alloc, policies) {
-        Ok(policies) => Ok(ReadPolicies {
-            policies,
-            templates,
-        }),
+        Ok(set) => Ok(set_with(set, templates)),
         Err(PolicySetError::Occupied { id: _ }) => {
             drop(templates);
             Err(PolicyJsonError::refusal(alloc, RefusalReason::RepeatedId))
@@ -188,6 +187,16 @@ fn set_of_all(
             drop(templates);
             Err(PolicyJsonError::Memory(error))
         }
+    }
+}
+
+fn set_with(policies: PolicySet, templates: Vec<Policy>) -> ReadPolicies
+    ensures said { sets.set_of_all (map policy_view templates.items) (policies_view policies) ≡ Ok (sets.set_view result) }
+{
+    drop(policies.policies());
+    ReadPolicies {
+        policies,
+        templates,
     }
 }
 

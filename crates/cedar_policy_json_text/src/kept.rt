@@ -1,5 +1,6 @@
+#![tactic(auto, using(crate::proofs::Keeping::keeping))]
 //! Whether policies are kept.
-ghost use Rattle.std.specs.Prelude.{◌≡◌, map, length, option_copied, IfOk};
+ghost use Rattle.std.specs.Prelude.{◌≡◌, [], ◌∷◌, ◌++◌, map, length, option_copied, OnOk, IfOk};
 ghost use Rattle.cedar_model.specs.Outcomes.{text_eq};
 ghost use Rattle.cedar_layers.specs.Policies.{policy_view, policy_id_text};
 ghost use Rattle.cedar_layers.specs.PolicySets.{policies_view};
@@ -16,7 +17,7 @@ pub(crate) fn policies_of(alloc: Global, policies: &PolicySet) -> Result<Vec<&Po
 {
     let mut all: Vec<&Policy> = Vec::new(alloc);
     'policies: for policy in policies.policies() {
-        all.push(policy)?;
+        lend(policy, &mut all)?;
     }
     Ok(all)
 }
@@ -27,9 +28,16 @@ pub(crate) fn each_of(alloc: Global, policies: &[Policy]) -> Result<Vec<&Policy>
 {
     let mut all: Vec<&Policy> = Vec::new(alloc);
     'policies: for policy in policies {
-        all.push(policy)?;
+        lend(policy, &mut all)?;
     }
     Ok(all)
+}
+
+fn lend<'a>(policy: &'a Policy, all: &mut Vec<&'a Policy>) -> Result<(), AllocError>
+    ensures { OnOk result (kept.lent all.new.items ≡ kept.lent all.old.items ++ policy_view policy.now ∷ []) }
+{
+    all.push(policy)?;
+    Ok(())
 }
 
 /// Whether each of the policies is kept, in order.
