@@ -6,4 +6,3 @@ pub mod Longs
 pub mod Levels
 pub mod Annotated
 pub mod TextLemmas
-pub mod Filled

@@ -49,9 +49,7 @@ reason_text reasons.NotAnObject = codes "not an object"
 reason_text reasons.NotAnArray = codes "not an array"
 reason_text reasons.UnexpectedMember = codes "a member too many"
 reason_text reasons.MissingMember = codes "missing"
-reason_text reasons.RepeatedKey = codes "duplicate key"
-reason_text reasons.RepeatedId = codes "duplicate id"
-reason_text reasons.UnknownTemplate = codes "no such template"
+reason_text reasons.RepeatedKey = codes "the key comes again"
 
 abbrev pub refusal_text : List Step → RefusalReason → Text
 refusal_text path reason = path_text path ++ (codes ": " ++ reason_text reason)

@@ -9,8 +9,6 @@ pub mod Expressions
 pub mod Bounds
 pub mod Scopes
 pub mod Policies
-pub mod Templates
-pub mod PolicySets
 pub mod Annotations
 pub mod Lists
 pub mod JsonTexts

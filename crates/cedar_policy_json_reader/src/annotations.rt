@@ -1,13 +1,15 @@
 #![tactic(auto, using(crate::proofs::Views::views, crate::proofs::Refused::refusals, crate::proofs::Members::members))]
 //! The annotations of policies.
-ghost use Rattle.std.specs.Prelude.{◌≡◌, [], Ok, OnOk, IfOk, IfErr};
+ghost use Rattle.std.specs.Prelude.{◌≡◌, [], Ok, length, codes, OnOk, IfOk, IfErr};
 ghost use Rattle.std.specs.Rc.{rc_str_bytes};
+ghost use Rattle.json.specs.Find.{get};
+ghost use Rattle.json.specs.Strict.{keys};
 ghost use Rattle.json.specs.Value.{value_view, members_view};
 ghost use Rattle.cedar_layers.specs.Policies.{annotations_view};
 ghost use Rattle.cedar_policy_json_reader.specs.Annotations.{texts_under};
 ghost use Rattle.cedar_policy_json_reader.specs.Paths.{at_key};
 ghost use Rattle.cedar_policy_json_reader.specs.Policies as says;
-ghost use Rattle.cedar_policy_json_reader.specs.Refusals.{IsRefusal, IsMemory, under, made_of};
+ghost use Rattle.cedar_policy_json_reader.specs.Refusals.{IsRefusal, IsMemory, under, and_then, made_of};
 
 use crate::errors::{PolicyJsonError, RefusalReason};
 use crate::shapes::{object, text};

@@ -1,15 +1,17 @@
 #![tactic(auto, using(crate::proofs::Views::views, crate::proofs::Refused::refusals, crate::proofs::Lists::lists))]
 //! Attributes, and the patterns of `like`.
 ghost use Rattle.std.specs.Prelude.{◌≡◌, [], ◌∷◌, ◌++◌, Ok, map, codes, OnOk, IfOk, IfErr};
+ghost use Rattle.std.specs.Rc.{rc_str_bytes};
 ghost use Rattle.json.specs.Find.{as_array};
 ghost use Rattle.json.specs.Value.{value_view, items_view};
+ghost use Rattle.cedar_model.specs.Terms as model;
 ghost use Rattle.cedar_names.specs.Leaves.{part_view, pattern_view, texts_view};
 ghost use Rattle.cedar_expressions.specs.View.{view};
 ghost use Rattle.cedar_policy_json_reader.specs.Leaves as says;
 ghost use Rattle.cedar_policy_json_reader.specs.Lists.{IsOneMore, AreMore, attributes_view};
-ghost use Rattle.cedar_policy_json_reader.specs.Paths.{at_index};
+ghost use Rattle.cedar_policy_json_reader.specs.Paths.{at_key, at_index};
 ghost use Rattle.cedar_policy_json_reader.specs.Shapes as shapes;
-ghost use Rattle.cedar_policy_json_reader.specs.Refusals.{IsRefusal, IsMemory, under, and_then};
+ghost use Rattle.cedar_policy_json_reader.specs.Refusals.{IsRefusal, IsMemory, under, made_of, and_then};
 
 use crate::errors::{PolicyJsonError, RefusalReason};
 use crate::shapes::{array, one_member, text, text_at};

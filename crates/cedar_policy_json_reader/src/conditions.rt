@@ -1,12 +1,13 @@
 #![tactic(auto, using(crate::proofs::Views::views, crate::proofs::Refused::refusals))]
 //! The conditions of policies.
-ghost use Rattle.std.specs.Prelude.{◌≡◌, [], Ok, map, OnOk, IfOk, IfErr};
+ghost use Rattle.std.specs.Prelude.{◌≡◌, [], Ok, map, option_map, codes, OnOk, IfOk, IfErr};
+ghost use Rattle.json.specs.Find.{as_array};
 ghost use Rattle.json.specs.Value.{value_view, items_view};
 ghost use Rattle.cedar_expressions.specs.View.{view};
 ghost use Rattle.cedar_functions.specs.Functions.{knowledge};
 ghost use Rattle.cedar_policy_json_reader.specs.Expressions.{expression_said};
 ghost use Rattle.cedar_policy_json_reader.specs.Lists.{IsOneMore};
-ghost use Rattle.cedar_policy_json_reader.specs.Paths.{at_index};
+ghost use Rattle.cedar_policy_json_reader.specs.Paths.{at_key, at_index};
 ghost use Rattle.cedar_policy_json_reader.specs.Policies as says;
 ghost use Rattle.cedar_policy_json_reader.specs.Refusals.{IsRefusal, IsMemory, under, made_of};
 

@@ -60,10 +60,6 @@ pub enum RefusalReason {
     MissingMember,
     /// A key of a record, or of annotations, that stands there a second time.
     RepeatedKey,
-    /// A policy, a template or a link has the id of one before it.
-    RepeatedId,
-    /// No template has the id that a link names.
-    UnknownTemplate,
 }
 
 /// Why JSON was not read.
@@ -84,6 +80,7 @@ pub enum PolicyJsonError {
 
 impl PolicyJsonError {
     ghost use Rattle.std.specs.Prelude.{[], ◌∷◌};
+    ghost use Rattle.std.specs.Rc.{rc_str_bytes};
     ghost use Rattle.cedar_policy_json_reader.specs.Paths.{at_key, at_index, step_view};
     ghost use Rattle.cedar_policy_json_reader.specs.Refusals.{IsUnder, IsRefusedAt};
 
@@ -195,9 +192,7 @@ impl fmt::Display for RefusalReason {
             RefusalReason::NotAnArray => f.write_str("not an array"),
             RefusalReason::UnexpectedMember => f.write_str("a member too many"),
             RefusalReason::MissingMember => f.write_str("missing"),
-            RefusalReason::RepeatedKey => f.write_str("duplicate key"),
-            RefusalReason::RepeatedId => f.write_str("duplicate id"),
-            RefusalReason::UnknownTemplate => f.write_str("no such template"),
+            RefusalReason::RepeatedKey => f.write_str("the key comes again"),
         }
     }
 }

@@ -1,7 +1,7 @@
 #![tactic(auto, using(crate::proofs::Views::views, crate::proofs::Refused::refusals, crate::proofs::Lists::lists))]
 //! Expressions.
-ghost use Rattle.std.specs.Prelude.{◌≡◌, [], Ok, map, codes, OnOk, IfOk, IfErr};
-ghost use Rattle.json.specs.Find.{as_array};
+ghost use Rattle.std.specs.Prelude.{◌≡◌, [], ◌∷◌, ◌++◌, Ok, map, option_map, codes, OnOk, IfOk, IfErr};
+ghost use Rattle.json.specs.Find.{as_array, as_object};
 ghost use Rattle.json.specs.Value.{value_view, items_view, members_view};
 ghost use Rattle.cedar_model.specs.Terms as model;
 ghost use Rattle.cedar_names.specs.Leaves.{unary_view};

@@ -8,6 +8,7 @@ ghost use Rattle.cedar_expressions.specs.View.{view, terms_view};
 ghost use Rattle.cedar_policy_json_reader.specs.Expressions as says;
 ghost use Rattle.cedar_policy_json_reader.specs.Lists.{IsUnrecorded};
 ghost use Rattle.cedar_policy_json_reader.specs.Names.{two_part_term, connection_view};
+ghost use Rattle.cedar_policy_json_reader.specs.Paths.{at_key};
 ghost use Rattle.cedar_policy_json_reader.specs.Refusals.{IsRefusal, IsMemory};
 
 use crate::errors::{PolicyJsonError, RefusalReason};

@@ -57,6 +57,7 @@ impl fmt::Display for JsonPath {
 
 ghost use Rattle.std.specs.Prelude.{flat_map, map};
 ghost use Rattle.std.specs.Fmt.{WritesOnOk};
+ghost use Rattle.std.specs.Rc.{rc_str_bytes};
 ghost use Rattle.cedar_policy_json_reader.specs.ErrorTexts as text;
 ghost use Rattle.cedar_policy_json_reader.specs.Paths.{step_view};
 

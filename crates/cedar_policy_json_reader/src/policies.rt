@@ -1,16 +1,21 @@
 #![tactic(auto, using(crate::proofs::Views::views, crate::proofs::Refused::refusals, crate::proofs::Members::members))]
 //! Policies and templates.
-ghost use Rattle.std.specs.Prelude.{◌≡◌, None, Ok, option_map, codes, IfOk, IfErr};
+ghost use Rattle.std.specs.Prelude.{◌≡◌, [], ◌∷◌, ◌++◌, None, Ok, map, length, option_map, codes, OnOk, IfOk, IfErr};
 ghost use Rattle.std.specs.Option.{option_and_then};
-ghost use Rattle.json.specs.Find.{as_str, get};
-ghost use Rattle.json.specs.Value.{value_view};
+ghost use Rattle.json.specs.Find.{as_array, as_str, get};
+ghost use Rattle.json.specs.Strict.{keys};
+ghost use Rattle.json.specs.Value.{value_view, items_view, members_view};
+ghost use Rattle.cedar_model.specs.Terms as model;
 ghost use Rattle.cedar_names.specs.Leaves.{variable_view};
 ghost use Rattle.cedar_expressions.specs.View.{view};
 ghost use Rattle.cedar_functions.specs.Functions.{knowledge};
 ghost use Rattle.cedar_layers.specs.Policies.{policy_view, effect_view, policy_id_text, annotations_view};
 ghost use Rattle.cedar_policy_json_reader.specs.Expressions.{expression_said};
+ghost use Rattle.cedar_policy_json_reader.specs.Lists.{IsOneMore};
+ghost use Rattle.cedar_policy_json_reader.specs.Paths.{at_key, at_index};
 ghost use Rattle.cedar_policy_json_reader.specs.Policies as says;
-ghost use Rattle.cedar_policy_json_reader.specs.Refusals.{IsRefusal, IsMemory};
+ghost use Rattle.cedar_policy_json_reader.specs.Refusals.{IsRefusal, IsMemory, under, made_of, and_then, both_said};
+ghost use Rattle.cedar_policy_json_reader.specs.Shapes as shapes;
 
 use crate::annotations::annotations_at;
 use crate::conditions::conditions_at;
@@ -63,8 +68,7 @@ pub fn template_from_json(
     read_policy(alloc, true, json, id, functions, limit)
 }
 
-// A policy or, where it is open, a template.
-pub(crate) fn read_policy(
+fn read_policy(
     alloc: Global,
     is_open: bool,
     json: &Value<'_>,

@@ -1,6 +1,6 @@
 #![tactic(auto, using(crate::proofs::Views::views, crate::proofs::Refused::refusals))]
 //! The scopes of policies.
-ghost use Rattle.std.specs.Prelude.{◌≡◌, [], ◌∷◌, None, Ok, map, option_map, codes, OnOk, IfOk, IfErr};
+ghost use Rattle.std.specs.Prelude.{◌≡◌, [], ◌∷◌, ◌++◌, None, Ok, map, option_map, codes, OnOk, IfOk, IfErr};
 ghost use Rattle.std.specs.Option.{option_and_then};
 ghost use Rattle.json.specs.Find.{as_array, as_str, get};
 ghost use Rattle.json.specs.Value.{value_view, items_view};
@@ -10,7 +10,7 @@ ghost use Rattle.cedar_names.specs.Names.{uid_name};
 ghost use Rattle.cedar_expressions.specs.View.{view};
 ghost use Rattle.cedar_policy_json_reader.specs.Lists.{IsOneMore};
 ghost use Rattle.cedar_policy_json_reader.specs.Paths.{at_key, at_index};
-ghost use Rattle.cedar_policy_json_reader.specs.Refusals.{IsRefusal, IsRefusedAt, IsMemory, under, made_of};
+ghost use Rattle.cedar_policy_json_reader.specs.Refusals.{IsRefusal, IsRefusedAt, IsMemory, under, made_of, and_then};
 ghost use Rattle.cedar_policy_json_reader.specs.Scopes as says;
 ghost use Rattle.cedar_policy_json_reader.specs.Shapes as shapes;
 ghost use Rattle.cedar_policy_json_reader.specs.declared.errors.RefusalReason.TheVariants as reasons;
@@ -29,8 +29,8 @@ use std::rc::Rc;
 
 // ---- entities and slots
 
-/// The entity, with or without `__entity` round its type and its id.
-pub(crate) fn plain_uid(alloc: Global, value: &Value<'_>) -> Result<EntityUID, PolicyJsonError>
+// The entity, with or without `__entity` round its type and its id.
+fn plain_uid(alloc: Global, value: &Value<'_>) -> Result<EntityUID, PolicyJsonError>
     ensures said { IfOk result (λ u. says.plain_uid_said (value_view value.now) ≡ Ok (uid_name u)) }
     ensures refused { IfErr result (IsRefusal (says.plain_uid_said (value_view value.now))) }
 {

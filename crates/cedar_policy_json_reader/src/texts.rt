@@ -8,11 +8,9 @@ ghost use Rattle.cedar_expressions.specs.View.{view};
 ghost use Rattle.cedar_functions.specs.Functions.{knowledge};
 ghost use Rattle.cedar_policy_json_reader.specs.Expressions.{expression_said};
 ghost use Rattle.cedar_policy_json_reader.specs.JsonTexts.{IsUnread, Says, IsTextRefusal};
-ghost use Rattle.cedar_policy_json_reader.specs.PolicySets.{policy_set_said, set_view};
 
 use crate::errors::PolicyJsonError;
 use crate::expressions::expression_from_json;
-use crate::policy_sets::{ReadPolicies, policy_set_from_json};
 use cedar_expressions::Expr;
 use cedar_functions::Functions;
 use json::{Error, Scratch, Value};
@@ -33,24 +31,6 @@ pub fn expression_from_json_str(
     let mut scratch = Scratch::new(alloc);
     match parse_json(alloc, text, &mut scratch) {
         Ok(value) => expression_from_json(alloc, &value, functions, limit),
-        Err(error) => Err(error),
-    }
-}
-
-/// The set of policies that the text says, as `policy_set_from_json` reads it. Refuses as `expression_from_json_str`
-/// does.
-pub fn policy_set_from_json_str(
-    alloc: Global,
-    text: &str,
-    functions: &Functions,
-    limit: usize,
-) -> Result<ReadPolicies, PolicyJsonError>
-    ensures said { IfOk result (λ r. Says text.now (policy_set_said (knowledge functions.now) limit) (set_view r)) }
-    ensures refused { IfErr result (IsTextRefusal text.now (policy_set_said (knowledge functions.now) limit)) }
-{
-    let mut scratch = Scratch::new(alloc);
-    match parse_json(alloc, text, &mut scratch) {
-        Ok(value) => policy_set_from_json(alloc, &value, functions, limit),
         Err(error) => Err(error),
     }
 }

@@ -12,7 +12,7 @@ use Rattle.cedar_text_parser.specs.declared.policies.ParsedPolicies.{ParsedPolic
 use Rattle.cedar_text_parser.specs.PolicyReading.{AreAllRead}
 use Rattle.cedar_unsatisfiable.specs.Alike.{say_the_same}
 use Rattle.cedar_policy_json_reader.specs.JsonTexts.{Says, IsTextRefusal}
-use Rattle.cedar_policy_json_reader.specs.PolicySets.{PolicySetView, policy_set_said}
+use Rattle.cedar_policy_set_reader.specs.PolicySets.{PolicySetView, policy_set_said}
 use Rattle.cedar_policy_json_text.specs.declared.errors.PolicyTextError.{PolicyTextError}
 use Rattle.cedar_policy_json_text.specs.declared.errors.PolicyTextError.TheVariants as errors
 

@@ -13,8 +13,7 @@ use std::fmt::Display;
 pub enum PolicyTextError {
     /// The JSON can't be read as a set of policies.
     Unread(PolicyJsonError),
-    /// Cedar's text has nothing that is read as this policy: it holds an unknown, it is linked, or it is higher than the
-    /// limit.
+    /// Cedar's text has nothing that is read as this policy: it holds an unknown, or it is higher than the limit.
     NoText { id: PolicyID },
     /// The policy has an annotation `id` that is not its id: a text has one name for it.
     AnotherName { id: PolicyID },

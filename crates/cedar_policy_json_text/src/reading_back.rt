@@ -1,9 +1,10 @@
+#![tactic(auto, using(crate::proofs::Backs::backs))]
 //! Texts that are read again.
 ghost use Rattle.std.specs.Prelude.{◌≡◌, map, IfOk};
 ghost use Rattle.cedar_functions.specs.Functions.{knowledge};
 ghost use Rattle.cedar_layers.specs.Policies.{policy_view};
 ghost use Rattle.cedar_layers.specs.PolicySets.{policies_view};
-ghost use Rattle.cedar_policy_json_reader.specs.PolicySets.{set_view};
+ghost use Rattle.cedar_policy_set_reader.specs.PolicySets.{set_view};
 ghost use Rattle.cedar_policy_json_text.specs.Kept.{ReadsBackIf, IsOwn, are_kept, are_all_kept, parsed_view};
 
 use crate::errors::PolicyTextError;
@@ -11,7 +12,7 @@ use crate::kept::{are_kept, each_of, is_kept, policies_of};
 use crate::writing::policy_text;
 use cedar_functions::Functions;
 use cedar_layers::policies::{Policy, PolicyID, PolicySet};
-use cedar_policy_json_reader::ReadPolicies;
+use cedar_policy_set_reader::ReadPolicies;
 use cedar_text_parser::{ParseError, ParsedPolicies, parse_policies, parse_policy};
 use std::alloc::{AllocError, Global};
 
@@ -26,11 +27,16 @@ pub(crate) fn read_back(
     ensures { IfOk result (ReadsBackIf (knowledge functions.now) limit (set_view set.now) text.now) }
 {
     match parse_policies(alloc, text, limit, functions) {
-        Ok(parsed) => {
-            let same = is_same(alloc, set, &parsed);
-            drop(parsed);
-            same
-        }
+        Ok(parsed) => match is_same(alloc, set, &parsed) {
+            Ok(same) => {
+                drop(parsed);
+                Ok(same)
+            }
+            Err(error) => {
+                drop(parsed);
+                Err(error)
+            }
+        },
         Err(errors) => {
             drop(errors);
             Ok(false)

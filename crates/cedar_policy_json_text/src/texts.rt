@@ -1,14 +1,16 @@
+#![tactic(auto, using(crate::proofs::Backs::backs))]
 //! Texts of JSON texts.
 ghost use Rattle.std.specs.Prelude.{OnOk, IfOk, IfErr, string_bytes};
 ghost use Rattle.cedar_functions.specs.Functions.{knowledge};
-ghost use Rattle.cedar_policy_json_reader.specs.PolicySets.{set_view};
+ghost use Rattle.cedar_policy_set_reader.specs.PolicySets.{set_view};
 ghost use Rattle.cedar_policy_json_text.specs.Kept.{IsTextOf, IsUntold, ReadsBack, IsOwn};
 
 use crate::errors::PolicyTextError;
 use crate::reading_back::{no_text, read_back};
 use crate::writing::text_of;
 use cedar_functions::Functions;
-use cedar_policy_json_reader::{PolicyJsonError, ReadPolicies, policy_set_from_json_str};
+use cedar_policy_json_reader::PolicyJsonError;
+use cedar_policy_set_reader::{ReadPolicies, policy_set_from_json_str};
 use std::alloc::{AllocError, Global};
 
 /// The policies that the JSON text says, as Cedar's text: it is read as these policies and templates, in their order,
@@ -25,11 +27,16 @@ pub fn policies_to_text(
     ensures refused { IfErr result (IsUntold (knowledge functions.now) limit json.now) }
 {
     match policy_set_from_json_str(alloc, json, functions, limit) {
-        Ok(set) => {
-            let text = text_of_set(alloc, &set, functions, limit);
-            drop(set);
-            text
-        }
+        Ok(set) => match text_of_set(alloc, &set, functions, limit) {
+            Ok(text) => {
+                drop(set);
+                Ok(text)
+            }
+            Err(error) => {
+                drop(set);
+                Err(error)
+            }
+        },
         Err(PolicyJsonError::Memory(error)) => Err(PolicyTextError::Memory(error)),
         Err(error) => Err(PolicyTextError::Unread(error)),
     }

@@ -6,7 +6,7 @@ use crate::errors::PolicyTextError;
 use crate::kept::annotated_id;
 use cedar_layers::policies::{Policy, PolicyID};
 use cedar_names::shared::write_quoted;
-use cedar_policy_json_reader::ReadPolicies;
+use cedar_policy_set_reader::ReadPolicies;
 use cedar_text_printer::policy_to_cedar;
 use std::alloc::{AllocError, Global};
 use std::fmt;

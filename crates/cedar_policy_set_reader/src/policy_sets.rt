@@ -1,44 +1,43 @@
-#![tactic(auto, using(crate::proofs::Views::views, crate::proofs::Refused::refusals, crate::proofs::Members::members))]
-//! Sets of policies, with templates and links.
-ghost use Rattle.std.specs.Prelude.{◌≡◌, ◌≤◌, ◌+◌, [], Ok, map, OnOk, IfOk, IfErr};
+#![tactic(auto, using(cedar_policy_json_reader::proofs::Refused::refusals, cedar_policy_json_reader::proofs::Lists::lists))]
+//! Sets of policies, with templates.
+ghost use Rattle.std.specs.Prelude.{◌≡◌, ◌≤◌, ◌+◌, [], ◌∷◌, ◌++◌, Ok, None, map, OnOk, IfOk, IfErr};
 ghost use Rattle.json.specs.Find.{get};
 ghost use Rattle.json.specs.Value.{value_view, members_view};
 ghost use Rattle.cedar_functions.specs.Functions.{knowledge};
-ghost use Rattle.cedar_layers.specs.Policies.{policy_view};
+ghost use Rattle.cedar_layers.specs.Policies.{policy_view, policy_id_text};
 ghost use Rattle.cedar_layers.specs.PolicySets.{policies_view};
 ghost use Rattle.cedar_policy_json_reader.specs.Expressions.{expression_said};
 ghost use Rattle.cedar_policy_json_reader.specs.Lists.{IsOneMore};
 ghost use Rattle.cedar_policy_json_reader.specs.Paths.{at_key};
-ghost use Rattle.cedar_policy_json_reader.specs.PolicySets as sets;
-ghost use Rattle.cedar_policy_json_reader.specs.Refusals.{IsRefusal, under};
+ghost use Rattle.cedar_policy_json_reader.specs.Policies.{policy_by};
+ghost use Rattle.cedar_policy_json_reader.specs.Refusals.{IsRefusal, IsMemory, under};
+ghost use Rattle.cedar_policy_set_reader.specs.PolicySets as sets;
 
-use crate::errors::{PolicyJsonError, RefusalReason};
-use crate::ids::{new_id, put_policy};
-use crate::links::put_links;
-use crate::policies::read_policy;
-use crate::shapes::{member_count, object};
+use crate::errors::{refusal, under_key};
+use crate::ids::new_id;
+use crate::shapes::{element_count, member_count, object};
 use cedar_functions::Functions;
 use cedar_layers::policies::{Policy, PolicyID, PolicySet, PolicySetError};
+use cedar_policy_json_reader::{
+    PolicyJsonError, RefusalReason, policy_from_json, template_from_json,
+};
 use json::Value;
 use std::alloc::Global;
 
 /// The policies of a set, and its templates.
 #[derive(Drop)]
 pub struct ReadPolicies {
-    /// The static policies in the order of the JSON, and behind them the linked ones: each is its template, of its own
-    /// id and with entities in its slots.
+    /// The static policies, in the order of the JSON.
     pub policies: PolicySet,
     /// The templates, in the order of the JSON.
     pub templates: Vec<Policy>,
 }
 
 /// The set of policies that the JSON value says: an object of `staticPolicies` and `templates`, each an object with ids
-/// for its keys, and of `templateLinks`, an array of objects of `templateId`, `newId` and `values`. Each of the three
-/// may be left out, and stands for none then. No two policies or templates, linked policies among them, have one id. A
-/// link has an entity for each slot of its template, and for no other. The levels of a condition are at most `limit`,
-/// and its functions are of these. Refuses with `Refused`, which holds the path of the part that is refused first, and
-/// the reason: static policies are read first, and links last; `Memory` is out of memory. The time that it takes grows
-/// with the square of the number of policies.
+/// for its keys, and of `templateLinks`, an array without elements. Each of the three may be left out. No id comes
+/// twice. The levels of a condition are at most `limit`, and its functions are of these. Refuses with `Refused`, which
+/// holds the path of the part that is refused first, and the reason: static policies are read first, then templates;
+/// `Memory` is out of memory. The time that it takes grows with the square of the number of policies.
 pub fn policy_set_from_json(
     alloc: Global,
     json: &Value<'_>,
@@ -54,9 +53,9 @@ pub fn policy_set_from_json(
         Some(count) => if count == section_count(json) {
             read_sections(alloc, json, functions, limit)
         } else {
-            Err(PolicyJsonError::refusal(alloc, RefusalReason::UnexpectedMember))
+            Err(refusal(alloc, RefusalReason::UnexpectedMember))
         },
-        None => Err(PolicyJsonError::refusal(alloc, RefusalReason::NotAnObject)),
+        None => Err(refusal(alloc, RefusalReason::NotAnObject)),
     }
 }
 
@@ -137,9 +136,8 @@ fn with_links(
     ensures refused { IfErr result (IsRefusal (sets.with_links (value_view json.now)
         (map policy_view policies.items) (map policy_view templates.items))) }
 {
-    let mut policies = policies;
-    match links_at(alloc, json, &templates, &mut policies) {
-        Ok(()) => set_of_all(alloc, policies, templates),
+    match links_at(alloc, json) {
+        Ok(count) => set_of_all(alloc, policies, templates, count),
         Err(error) => {
             drop((policies, templates));
             Err(error)
@@ -147,23 +145,31 @@ fn with_links(
     }
 }
 
-fn links_at(
-    alloc: Global,
-    json: &Value<'_>,
-    templates: &Vec<Policy>,
-    policies: &mut Vec<Policy>,
-) -> Result<(), PolicyJsonError>
-    ensures said { OnOk result (sets.links_at (map policy_view templates.now.items)
-        (map policy_view policies.old.items) (value_view json.now) ≡ Ok (map policy_view policies.new.items)) }
-    ensures refused { IfErr result (IsRefusal (sets.links_at (map policy_view templates.now.items)
-        (map policy_view policies.old.items) (value_view json.now))) }
+// How many links there are: none.
+fn links_at(alloc: Global, json: &Value<'_>) -> Result<usize, PolicyJsonError>
+    ensures said { IfOk result (λ n. sets.links_at (value_view json.now) ≡ Ok n) }
+    ensures refused { IfErr result (IsRefusal (sets.links_at (value_view json.now))) }
 {
     match json.get("templateLinks") {
-        Some(links) => match put_links(alloc, links, templates, policies) {
-            Ok(()) => Ok(()),
-            Err(error) => Err(error.under_key(alloc, "templateLinks")),
+        Some(links) => match no_links(alloc, links) {
+            Ok(count) => Ok(count),
+            Err(error) => Err(under_key(alloc, "templateLinks", error)),
         },
-        None => Ok(()),
+        None => Ok(0),
+    }
+}
+
+fn no_links(alloc: Global, json: &Value<'_>) -> Result<usize, PolicyJsonError>
+    ensures said { IfOk result (λ n. sets.links_said (value_view json.now) ≡ Ok n) }
+    ensures refused { IfErr result (IsRefusal (sets.links_said (value_view json.now))) }
+{
+    match element_count(json) {
+        Some(count) => if count == 0 {
+            Ok(count)
+        } else {
+            Err(refusal(alloc, RefusalReason::UnexpectedMember))
+        },
+        None => Err(refusal(alloc, RefusalReason::NotAnArray)),
     }
 }
 
@@ -171,17 +177,18 @@ fn set_of_all(
     alloc: Global,
     policies: Vec<Policy>,
     templates: Vec<Policy>,
+    count: usize,
 ) -> Result<ReadPolicies, PolicyJsonError>
     ensures said { IfOk result (λ r. sets.set_of_all (map policy_view templates.items) (map policy_view policies.items)
-        ≡ Ok (sets.set_view r)) }
+        count ≡ Ok (sets.set_view r)) }
     ensures refused { IfErr result
-        (IsRefusal (sets.set_of_all (map policy_view templates.items) (map policy_view policies.items))) }
+        (IsRefusal (sets.set_of_all (map policy_view templates.items) (map policy_view policies.items) count)) }
 {
     match PolicySet::try_from_iter(alloc, policies) {
         Ok(set) => Ok(set_with(set, templates)),
         Err(PolicySetError::Occupied { id: _ }) => {
             drop(templates);
-            Err(PolicyJsonError::refusal(alloc, RefusalReason::RepeatedId))
+            Err(refusal(alloc, RefusalReason::RepeatedKey))
         }
         Err(PolicySetError::Memory(error)) => {
             drop(templates);
@@ -191,7 +198,8 @@ fn set_of_all(
 }
 
 fn set_with(policies: PolicySet, templates: Vec<Policy>) -> ReadPolicies
-    ensures said { sets.set_of_all (map policy_view templates.items) (policies_view policies) ≡ Ok (sets.set_view result) }
+    ensures said { sets.set_of_all (map policy_view templates.items) (policies_view policies) 0
+        ≡ Ok (sets.set_view result) }
 {
     drop(policies.policies());
     ReadPolicies {
@@ -222,7 +230,7 @@ fn policies_at(
     match json.get(key) {
         Some(members) => match read_members(alloc, is_open, members, others, functions, limit) {
             Ok(policies) => Ok(policies),
-            Err(error) => Err(error.under_key(alloc, key)),
+            Err(error) => Err(under_key(alloc, key, error)),
         },
         None => Ok(Vec::new(alloc)),
     }
@@ -243,7 +251,7 @@ fn read_members(
 {
     match object(json) {
         Some(members) => read_each(alloc, is_open, members, others, functions, limit),
-        None => Err(PolicyJsonError::refusal(alloc, RefusalReason::NotAnObject)),
+        None => Err(refusal(alloc, RefusalReason::NotAnObject)),
     }
 }
 
@@ -326,7 +334,7 @@ fn put_member(
         alloc, is_open, key, value, others, policies, functions, limit,
     ) {
         Ok(policy) => put_policy(policy, policies),
-        Err(error) => Err(error.under_key(alloc, key)),
+        Err(error) => Err(under_key(alloc, key, error)),
     }
 }
 
@@ -350,5 +358,37 @@ fn read_member(
     match new_id(alloc, key, policies, others) {
         Ok(id) => read_policy(alloc, is_open, value, id, functions, limit),
         Err(error) => Err(error),
+    }
+}
+
+// A policy or, where it is open, a template.
+fn read_policy(
+    alloc: Global,
+    is_open: bool,
+    value: &Value<'_>,
+    id: PolicyID,
+    functions: &Functions,
+    limit: usize,
+) -> Result<Policy, PolicyJsonError>
+    ensures said { IfOk result (λ p. policy_by is_open (expression_said (knowledge functions.now) limit)
+        (policy_id_text id) (value_view value.now) ≡ Ok (policy_view p)) }
+    ensures refused { IfErr result (IsRefusal (policy_by is_open (expression_said (knowledge functions.now) limit)
+        (policy_id_text id) (value_view value.now))) }
+{
+    if is_open {
+        template_from_json(alloc, value, id, functions, limit)
+    } else {
+        policy_from_json(alloc, value, id, functions, limit)
+    }
+}
+
+fn put_policy(policy: Policy, policies: &mut Vec<Policy>) -> Result<(), PolicyJsonError>
+    ensures said { OnOk result
+        (map policy_view policies.new.items ≡ map policy_view policies.old.items ++ policy_view policy ∷ []) }
+    ensures memory { IfErr result IsMemory }
+{
+    match policies.push(policy) {
+        Ok(()) => Ok(()),
+        Err(failed) => Err(PolicyJsonError::from(failed)),
     }
 }

@@ -3,8 +3,8 @@ use Rattle.json.specs.Value.{members_view}
 use Rattle.cedar_functions.specs.Functions.{knowledge}
 use Rattle.cedar_layers.specs.Policies.{policy_view}
 use Rattle.cedar_policy_json_reader.specs.Expressions.{expression_said}
-use Rattle.cedar_policy_json_reader.specs.PolicySets.{members_from}
-use Rattle.cedar_policy_json_reader.proofs.policy_sets.put_members.Given as goal
+use Rattle.cedar_policy_set_reader.specs.PolicySets.{members_from}
+use Rattle.cedar_policy_set_reader.proofs.policy_sets.put_members.Given as goal
 
 abbrev pub invariant-members : goal.invariant-members
 invariant-members l =
