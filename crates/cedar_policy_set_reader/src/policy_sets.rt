@@ -69,7 +69,7 @@ fn section_count(json: &Value<'_>) -> usize
 }
 
 fn one_if_there(json: &Value<'_>, key: &str) -> usize
-    ensures { result ≡ sets.one_if_there (get key.now (value_view json.now)) }
+    ensures counted { result ≡ sets.one_if_there (get key.now (value_view json.now)) }
     ensures small { result ≤ 1 }
 {
     match json.get(key) {
