@@ -65,7 +65,7 @@ fn name_of(alloc: Global, policy: &Policy, number: usize) -> Result<String, Poli
     let id = policy.id().to_string(alloc)?;
     let own = format!(in alloc; "policy{number}")?;
     match annotated_id(policy) {
-        Some(name) => if name.as_str() == id.as_str() || own == id {
+        Some(name) => if name == id.as_str() || own == id {
             Ok(String::new(alloc))
         } else {
             Err(another_name(policy.id()))
