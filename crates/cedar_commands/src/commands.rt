@@ -7,7 +7,10 @@ use std::alloc::{AllocError, Global};
 pub(crate) const HANDLINGS: [&str; 2] = ["skip", "forbid"];
 
 // Into what policies are translated.
-const DIRECTIONS: [&str; 1] = ["cedar-to-json"];
+const DIRECTIONS: [&str; 2] = ["cedar-to-json", "json-to-cedar"];
+
+// In which form policies are given.
+const FORMATS: [&str; 2] = ["cedar", "json"];
 
 // What a step takes.
 const STEP_FILES: [&str; 2] = ["VALUES", "ENTITIES"];
@@ -46,9 +49,16 @@ fn flag<'a>(alloc: Global, name: &'a str, help: &'a str) -> Arg<'a> {
 }
 
 fn policies<'a>(alloc: Global) -> Arg<'a> {
-    option(alloc, "policies", "FILE", "The policies, in Cedar's text")
+    option(alloc, "policies", "FILE", "The policies")
         .short('p')
         .required(true)
+}
+
+fn policy_format<'a>(alloc: Global) -> Arg<'a> {
+    let help = "In which form the policies are: in Cedar's text, or in its JSON of policies";
+    option(alloc, "policy-format", "FORMAT", help)
+        .value_parser(ValueParser::Names(&FORMATS))
+        .default_value("cedar")
 }
 
 fn limit<'a>(alloc: Global) -> Arg<'a> {
@@ -117,6 +127,7 @@ fn authorize<'a>(alloc: Global) -> Result<Command<'a>, AllocError> {
     let command = Command::new(alloc, "authorize")
         .about("What the policies decide: ALLOW (status 0) or DENY (status 2)")
         .arg(policies(alloc))?
+        .arg(policy_format(alloc))?
         .arg(error_handling(alloc))?
         .arg(limit(alloc))?
         .arg(requests(alloc)?)?
@@ -175,6 +186,7 @@ fn partially_authorize<'a>(alloc: Global) -> Result<Command<'a>, AllocError> {
     let command = Command::new(alloc, "partially-authorize")
         .about("What is known of the decision where parts are unknown: those that are not given")
         .arg(policies(alloc))?
+        .arg(policy_format(alloc))?
         .arg(error_handling(alloc))?
         .arg(limit(alloc))?
         .arg(partial)?
@@ -229,6 +241,7 @@ fn check_parse<'a>(alloc: Global) -> Result<Command<'a>, AllocError> {
     Command::new(alloc, "check-parse")
         .about("Whether the policies can be read")
         .arg(policies(alloc))?
+        .arg(policy_format(alloc))?
         .arg(flag(alloc, "strict", "Tells the policies that apply in no world"))?
         .arg(deny_warnings(alloc)?)
 }
@@ -239,12 +252,13 @@ fn deny_warnings<'a>(alloc: Global) -> Result<Arg<'a>, AllocError> {
 }
 
 fn translate<'a>(alloc: Global) -> Result<Command<'a>, AllocError> {
-    let help = "From what into what; from JSON nothing is read yet";
-    let direction = option(alloc, "direction", "DIRECTION", help)
+    let direction = option(alloc, "direction", "DIRECTION", "From what into what")
         .value_parser(ValueParser::Names(&DIRECTIONS))
         .required(true);
     Command::new(alloc, "translate-policy")
-        .about("The policies and templates as Cedar's JSON of policies")
+        .about(
+            "The policies and templates as Cedar's JSON of policies, or of that JSON as Cedar's text",
+        )
         .arg(policies(alloc))?
         .arg(direction)
 }

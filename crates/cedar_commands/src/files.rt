@@ -1,4 +1,5 @@
 //! The files that arguments name. `-` is standard input, which is read once.
+use crate::policies::text_of_json;
 use cedar_cli::{Refusal, Source, Step, refuse_with_line};
 use clap::ArgMatches;
 use std::alloc::Global;
@@ -50,13 +51,14 @@ pub(crate) struct Texts {
 }
 
 impl Texts {
-    /// Reads all files that are named, and refuses a second `-` before it reads any.
+    /// Reads all files that are named, and refuses a second `-` before it reads any. Of policies in JSON the text is
+    /// the one that says the same.
     pub(crate) fn read<R: Files + Input + AllocGlobal>(
         rt: &R,
         matches: &ArgMatches<'_>,
     ) -> Result<Texts, Refusal> {
         refuse_second_input(rt.alloc(), matches)?;
-        let policies = text_of(rt, matches.get_str("policies"))?;
+        let policies = policies_of(rt, matches)?;
         let with = text_of(rt, matches.get_str("with"))?;
         let context = text_of(rt, matches.get_str("context"))?;
         let request = text_of(rt, matches.get_str("request-json"))?;
@@ -127,6 +129,46 @@ impl Texts {
             steps.push(step_of(files, is_partial, max_ancestors))?;
         }
         Ok(steps)
+    }
+}
+
+fn policies_of<R: Files + Input + AllocGlobal>(
+    rt: &R,
+    matches: &ArgMatches<'_>,
+) -> Result<Option<File>, Refusal> {
+    match text_of(rt, matches.get_str("policies"))? {
+        Some(file) => Ok(Some(as_text(rt.alloc(), file, is_json(matches))?)),
+        None => Ok(None),
+    }
+}
+
+// Whether the policies are in JSON, by their format or by the direction in which they are translated.
+fn is_json(matches: &ArgMatches<'_>) -> bool {
+    matches.get_str("policy-format") == Some("json")
+        || matches.get_str("direction") == Some("json-to-cedar")
+}
+
+fn as_text(alloc: Global, file: File, is_json: bool) -> Result<File, Refusal> {
+    if is_json {
+        let text = text_of_json(alloc, file.name.as_str(), file.text.as_str());
+        let File { name, text: json } = file;
+        drop(json);
+        text_file(alloc, name, text)
+    } else {
+        Ok(file)
+    }
+}
+
+fn text_file(alloc: Global, name: String, text: Result<String, Refusal>) -> Result<File, Refusal> {
+    match text {
+        Ok(text) => {
+            let name = format!(in alloc; "{name} as text")?;
+            Ok(File { name, text })
+        }
+        Err(refusal) => {
+            drop(name);
+            Err(refusal)
+        }
     }
 }
 

@@ -2,8 +2,8 @@
 //! they answer is handed out. A refused command has nothing to print by its type (`Answer`). Files that words name are
 //! read here, each once, and nowhere below.
 //!
-//! - `commands`: the commands and their arguments, which `clap` reads. `files`: the files that arguments name. `run`:
-//!   `answer_command`, which takes the words of a command line.
+//! - `commands`: the commands and their arguments, which `clap` reads. `files`: the files that arguments name.
+//!   `policies`: policies in JSON, as text. `run`: `answer_command`, which takes the words of a command line.
 //!
 //! What is answered is promised by the crates that are asked (`cedar_cli`, from texts and options on). The promise here
 //! is the checker's alone: each command stays within its memory and comes to an end. That words and files become these
@@ -12,6 +12,7 @@
 
 mod commands;
 mod files;
+mod policies;
 mod run;
 
 pub use run::{Answer, answer_command};

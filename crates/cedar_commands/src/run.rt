@@ -116,7 +116,7 @@ fn run_with(
             evaluate_expression(alloc, expression(matches), &asked, limit(matches), is_json)
         }
         "check-parse" => check(alloc, policies, matches),
-        "translate-policy" => Ok(printed_alone(alloc, translate_to_json(alloc, policies)?)),
+        "translate-policy" => translate(alloc, policies, matches),
         _ => format(alloc, policies, matches.get_flag("check")),
     }
 }
@@ -163,6 +163,20 @@ fn check(
     } else {
         check_policies(alloc, policies)?;
         Ok(nothing(alloc))
+    }
+}
+
+// Of policies in JSON the text is there already.
+fn translate(
+    alloc: Global,
+    policies: Source<'_>,
+    matches: &ArgMatches<'_>,
+) -> Result<Printed, Refusal> {
+    if matches.get_str("direction") == Some("json-to-cedar") {
+        check_policies(alloc, policies)?;
+        Ok(printed_alone(alloc, String::from_str(alloc, policies.text)?))
+    } else {
+        Ok(printed_alone(alloc, translate_to_json(alloc, policies)?))
     }
 }
 

@@ -1,5 +1,5 @@
 //! Answers the rows of the tables that are named, and compares with what is wanted: what decides requests, which
-//! policies can't be meant, plans as SQL, and policies as JSON. Prints each row that is answered otherwise, and a line
+//! policies can't be meant, plans as SQL, and policies as JSON and read of it. Prints each row that is answered otherwise, and a line
 //! `FILE: HELD of ROWS rows hold` a file.
 //!
 //! - `rows`, `setting`, `questions`, `answer`: tables, the facts that rows share, what is asked of a text, and what is
@@ -10,7 +10,8 @@
 //!   policy's text shows: that it never applies, errs wherever its scope holds, or tests an attribute after it read it.
 //!   `same`: of which policies one before says the same.
 //! - `plans`: what is left of policies, as SQL; `columns`: the tables that it is asked of.
-//! - `as_json`: expressions, policies, templates and links as JSON; `links`: the links.
+//! - `as_json`: expressions, policies, templates and links as JSON; `links`: the links. `from_json`: what JSON of
+//!   policies says, as text.
 //!
 //! The promise is the checker's alone: the program stays within its memory and comes to an end. How many rows hold is
 //! compared with `stdout`; `docs/TABLES.md` says what a row has.
@@ -20,6 +21,7 @@ mod answer;
 mod as_json;
 mod columns;
 mod explained;
+mod from_json;
 mod given;
 mod links;
 mod never;

@@ -8,10 +8,13 @@
 //! - `sql`: what is left of the policies, as SQL on rows that stand for the resource;
 //! - `json expression`, `json policy`, `json template`: the expression, the only policy or the only template as JSON;
 //! - `json linked`: the only template, as the policy of the setting's link; `json policies`: the policies and templates,
-//!   and the setting's links.
+//!   and the setting's links;
+//! - `read policies`, `read expression`: the policies, or the expression, that JSON says, as text; `read again`: the
+//!   policies and templates as text, once more of their JSON.
 use crate::answer::{Answer, Unanswered};
 use crate::as_json::{ask_expression, put_json, put_linked, put_policies};
 use crate::explained::explain_asked;
+use crate::from_json::{put_again, put_expression_read, put_text};
 use crate::given::{read_policies, read_policy, read_store};
 use crate::never::{put_errs, put_late, put_never};
 use crate::plans::plan_asked;
@@ -30,6 +33,9 @@ pub fn ask(answer: &mut Answer, setting: Setting<'_>, text: &str) {
         "sql" => ask_policies(answer, setting, text),
         "json policies" => ask_policies(answer, setting, text),
         "same" => ask_policies(answer, setting, text),
+        "read again" => ask_policies(answer, setting, text),
+        "read policies" => put_text(answer, text),
+        "read expression" => put_expression_read(answer, text),
         "json expression" => ask_expression(answer, text),
         _ => ask_policy(answer, setting, text),
     }
@@ -41,6 +47,7 @@ fn ask_policies(answer: &mut Answer, setting: Setting<'_>, text: &str) {
             match setting.question {
                 "json policies" => put_policies(answer, setting, &parsed),
                 "same" => put_same(answer, &parsed),
+                "read again" => put_again(answer, &parsed),
                 _ => ask_over_store(answer, setting, &parsed.policies),
             }
             drop(parsed);

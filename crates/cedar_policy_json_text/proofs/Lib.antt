@@ -1,0 +1,3 @@
+pub mod Naming
+pub mod Keeping
+pub mod Backs

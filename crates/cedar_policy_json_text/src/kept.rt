@@ -1,0 +1,117 @@
+#![tactic(auto, using(crate::proofs::Keeping::keeping))]
+//! Whether policies are kept.
+ghost use Rattle.std.specs.Prelude.{◌≡◌, [], ◌∷◌, ◌++◌, map, length, option_copied, OnOk, IfOk};
+ghost use Rattle.cedar_model.specs.Outcomes.{text_eq};
+ghost use Rattle.cedar_layers.specs.Policies.{policy_view, policy_id_text};
+ghost use Rattle.cedar_layers.specs.PolicySets.{policies_view};
+ghost use Rattle.cedar_policy_json_text.specs.Kept as kept;
+
+use cedar_layers::policies::{Policy, PolicyID, PolicySet};
+use cedar_unsatisfiable::say_the_same;
+use std::alloc::{AllocError, Global};
+use std::rc::RcStr;
+
+/// The policies of the set, in order.
+pub(crate) fn policies_of(alloc: Global, policies: &PolicySet) -> Result<Vec<&Policy>, AllocError>
+    ensures { IfOk result (λ v. kept.lent v.items ≡ policies_view policies.now) }
+{
+    let mut all: Vec<&Policy> = Vec::new(alloc);
+    'policies: for policy in policies.policies() {
+        lend(policy, &mut all)?;
+    }
+    Ok(all)
+}
+
+/// The policies, each lent.
+pub(crate) fn each_of(alloc: Global, policies: &[Policy]) -> Result<Vec<&Policy>, AllocError>
+    ensures { IfOk result (λ v. kept.lent v.items ≡ map policy_view policies.now) }
+{
+    let mut all: Vec<&Policy> = Vec::new(alloc);
+    'policies: for policy in policies {
+        lend(policy, &mut all)?;
+    }
+    Ok(all)
+}
+
+fn lend<'a>(policy: &'a Policy, all: &mut Vec<&'a Policy>) -> Result<(), AllocError>
+    ensures { OnOk result (kept.lent all.new.items ≡ kept.lent all.old.items ++ policy_view policy.now ∷ []) }
+{
+    all.push(policy)?;
+    Ok(())
+}
+
+/// Whether each of the policies is kept, in order.
+pub(crate) fn are_kept(
+    alloc: Global,
+    policies: &[&Policy],
+    read: &[&Policy],
+) -> Result<bool, AllocError>
+    ensures { IfOk result (λ b. b ≡ kept.are_kept (kept.lent policies.now) (kept.lent read.now)) }
+{
+    if policies.len() == read.len() {
+        are_as_many_kept(alloc, policies, read)
+    } else {
+        Ok(false)
+    }
+}
+
+fn are_as_many_kept(
+    alloc: Global,
+    policies: &[&Policy],
+    read: &[&Policy],
+) -> Result<bool, AllocError>
+    requires { length policies.now ≡ length read.now }
+    ensures { IfOk result (λ b. b ≡ kept.are_kept (kept.lent policies.now) (kept.lent read.now)) }
+{
+    let mut index: usize = 0;
+    'policies: for policy in policies {
+        if !is_kept(alloc, policy, read[index])? {
+            return Ok(false);
+        }
+        index += 1;
+    }
+    Ok(true)
+}
+
+/// Whether the second policy says what the first says, and goes by its id.
+pub(crate) fn is_kept(alloc: Global, policy: &Policy, read: &Policy) -> Result<bool, AllocError>
+    ensures { IfOk result (λ b. b ≡ kept.is_kept (policy_view policy.now) (policy_view read.now)) }
+{
+    if say_the_same(policy, read) {
+        is_called(alloc, policy.id(), read)
+    } else {
+        Ok(false)
+    }
+}
+
+fn is_called(alloc: Global, id: &PolicyID, policy: &Policy) -> Result<bool, AllocError>
+    ensures { IfOk result (λ b. b ≡ kept.is_called (policy_id_text id.now) (policy_view policy.now)) }
+{
+    match annotated_id(policy) {
+        Some(name) => if is_text(alloc, id, name)? {
+            Ok(true)
+        } else {
+            Ok(id == policy.id())
+        },
+        None => Ok(id == policy.id()),
+    }
+}
+
+fn is_text(alloc: Global, id: &PolicyID, text: &str) -> Result<bool, AllocError>
+    ensures { IfOk result (λ b. b ≡ text_eq (policy_id_text id.now) text.now) }
+{
+    let other = PolicyID::from_string(RcStr::from_str(alloc, text)?);
+    let same = *id == other;
+    drop(other);
+    Ok(same)
+}
+
+/// The policy's annotation `id`, if it has one.
+pub(crate) fn annotated_id(policy: &Policy) -> Option<&str>
+    ensures { option_copied result ≡ kept.annotated (policy_view policy.now) }
+{
+    match policy.annotations_rc().0.get("id") {
+        Some(name) => Some(name.as_str()),
+        None => None,
+    }
+}

@@ -1,0 +1,82 @@
+#![tactic(auto, using(crate::proofs::Backs::backs))]
+//! Texts of JSON texts.
+ghost use Rattle.std.specs.Prelude.{OnOk, IfOk, IfErr, string_bytes};
+ghost use Rattle.cedar_functions.specs.Functions.{knowledge};
+ghost use Rattle.cedar_policy_set_reader.specs.PolicySets.{set_view};
+ghost use Rattle.cedar_policy_json_text.specs.Kept.{IsTextOf, IsUntold, ReadsBack, IsOwn};
+
+use crate::errors::PolicyTextError;
+use crate::reading_back::{no_text, read_back};
+use crate::writing::text_of;
+use cedar_functions::Functions;
+use cedar_policy_json_reader::PolicyJsonError;
+use cedar_policy_set_reader::{ReadPolicies, policy_set_from_json_str};
+use std::alloc::{AllocError, Global};
+
+/// The policies that the JSON text says, as Cedar's text: it is read as these policies and templates, in their order,
+/// with calls of these functions and at most so many levels. A policy goes by its id there: by its annotation `id` or,
+/// where it has none, by its place, as `policy0`. Refuses where the JSON can't be read (`Unread`), where a policy has no
+/// such text (`NoText`) or another annotation `id` (`AnotherName`), or out of memory.
+pub fn policies_to_text(
+    alloc: Global,
+    json: &str,
+    functions: &Functions,
+    limit: usize,
+) -> Result<String, PolicyTextError>
+    ensures text { IfOk result (λ t. IsTextOf (knowledge functions.now) limit json.now (string_bytes t)) }
+    ensures refused { IfErr result (IsUntold (knowledge functions.now) limit json.now) }
+{
+    match policy_set_from_json_str(alloc, json, functions, limit) {
+        Ok(set) => match text_of_set(alloc, &set, functions, limit) {
+            Ok(text) => {
+                drop(set);
+                Ok(text)
+            }
+            Err(error) => {
+                drop(set);
+                Err(error)
+            }
+        },
+        Err(PolicyJsonError::Memory(error)) => Err(PolicyTextError::Memory(error)),
+        Err(error) => Err(PolicyTextError::Unread(error)),
+    }
+}
+
+fn text_of_set(
+    alloc: Global,
+    set: &ReadPolicies,
+    functions: &Functions,
+    limit: usize,
+) -> Result<String, PolicyTextError>
+    ensures back { IfOk result (λ t. ReadsBack (knowledge functions.now) limit (set_view set.now) (string_bytes t)) }
+    ensures own { IfErr result IsOwn }
+{
+    match text_of(alloc, set) {
+        Ok(text) => checked(alloc, set, text, functions, limit),
+        Err(error) => Err(error),
+    }
+}
+
+// The text, where it is read as these policies.
+fn checked(
+    alloc: Global,
+    set: &ReadPolicies,
+    text: String,
+    functions: &Functions,
+    limit: usize,
+) -> Result<String, PolicyTextError>
+    ensures back { IfOk result (λ t. ReadsBack (knowledge functions.now) limit (set_view set.now) (string_bytes t)) }
+    ensures own { IfErr result IsOwn }
+{
+    match read_back(alloc, set, &text, functions, limit) {
+        Ok(true) => Ok(text),
+        Ok(false) => {
+            drop(text);
+            Err(no_text(alloc, set, functions, limit))
+        }
+        Err(AllocError) => {
+            drop(text);
+            Err(PolicyTextError::Memory(AllocError))
+        }
+    }
+}

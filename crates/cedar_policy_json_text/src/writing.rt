@@ -1,0 +1,102 @@
+//! Policies as text, under their ids.
+ghost use Rattle.std.specs.Prelude.{IfErr};
+ghost use Rattle.cedar_policy_json_text.specs.Kept.{IsOwn};
+
+use crate::errors::PolicyTextError;
+use crate::kept::annotated_id;
+use cedar_layers::policies::{Policy, PolicyID};
+use cedar_names::shared::write_quoted;
+use cedar_policy_set_reader::ReadPolicies;
+use cedar_text_printer::policy_to_cedar;
+use std::alloc::{AllocError, Global};
+use std::fmt;
+
+/// The policies, and behind them the templates, with an empty line between two.
+pub(crate) fn text_of(alloc: Global, set: &ReadPolicies) -> Result<String, PolicyTextError>
+    ensures { IfErr result IsOwn }
+{
+    let mut text = String::new(alloc);
+    let mut number: usize = 0;
+    'policies: for policy in set.policies.policies() {
+        push_policy(alloc, policy, number, &mut text)?;
+        number = number.saturating_add(1);
+    }
+    'templates: for template in set.templates.as_slice() {
+        push_policy(alloc, template, number, &mut text)?;
+        number = number.saturating_add(1);
+    }
+    Ok(text)
+}
+
+fn push_policy(
+    alloc: Global,
+    policy: &Policy,
+    number: usize,
+    text: &mut String,
+) -> Result<(), PolicyTextError>
+    ensures { IfErr result IsOwn }
+{
+    if number > 0 {
+        text.push_str("\n")?;
+    }
+    let written = policy_text(alloc, policy, number)?;
+    text.push_str(&written)?;
+    text.push_str("\n")?;
+    Ok(())
+}
+
+/// The policy of this number in the text, on lines of its own.
+pub(crate) fn policy_text(
+    alloc: Global,
+    policy: &Policy,
+    number: usize,
+) -> Result<String, PolicyTextError>
+    ensures { IfErr result IsOwn }
+{
+    let name = name_of(alloc, policy, number)?;
+    let written = policy_to_cedar(alloc, policy)?;
+    Ok(format!(in alloc; "{name}{written}")?)
+}
+
+// The annotation that names the policy, on a line; nothing, where it needs none.
+fn name_of(alloc: Global, policy: &Policy, number: usize) -> Result<String, PolicyTextError>
+    ensures { IfErr result IsOwn }
+{
+    let id = policy.id().to_string(alloc)?;
+    let own = format!(in alloc; "policy{number}")?;
+    match annotated_id(policy) {
+        Some(name) => if name == id.as_str() || own == id {
+            Ok(String::new(alloc))
+        } else {
+            Err(another_name(policy.id()))
+        },
+        None => if own == id {
+            Ok(String::new(alloc))
+        } else {
+            Ok(format!(in alloc; "@id({})\n", Quoted { text: id.as_str() })?)
+        },
+    }
+}
+
+#[cold]
+fn another_name(id: &PolicyID) -> PolicyTextError
+    ensures { IsOwn result }
+{
+    let copy: Result<PolicyID, AllocError> = id.clone();
+    match copy {
+        Ok(id) => PolicyTextError::AnotherName { id },
+        Err(error) => PolicyTextError::Memory(error),
+    }
+}
+
+// A text in quotes.
+#[derive(Drop)]
+struct Quoted<'a> {
+    text: &'a str,
+}
+
+impl fmt::Display for Quoted<'_> {
+    fn fmt<W: fmt::Write>(&self, f: &mut fmt::Formatter<W>) -> fmt::Result {
+        write_quoted(self.text, f)
+    }
+}
