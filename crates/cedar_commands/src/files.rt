@@ -13,7 +13,7 @@ const INPUT: &str = "-";
 const INPUT_NAME: &str = "standard input";
 
 // The options that name one file.
-const FILE_OPTIONS: [&str; 6] = [
+const FILE_OPTIONS: [&str; 7] = [
     "policies",
     "with",
     "context",
