@@ -16,5 +16,5 @@ items-preserved c =
     let rest = items_view (drop (l.item-index + 1) xs) in (
       ap (λ (n : ℕ). n + 1) l.invariant.0,
       l.invariant.1 ∙ ap (λ (ys : List (Value Global)). steps_said (operand_view l.operand) l.index (items_view ys)) here
-      ∙ ap (and_then (λ q. steps_said q (l.index + 1) rest)) c.in_ok-operand.ensures.said,
+          ∙ ap (and_then (λ q. steps_said q (l.index + 1) rest)) c.in_ok-operand.ensures.said,
     )
