@@ -169,7 +169,8 @@ fn found_attribute(
 ) -> Result<PartialValue, AllocError>
     requires { IfSome found (λ p. is_restricted_part (partial_view p.now) ≡ true) }
     ensures view { IfOk result (λ p. partial_view p ≡
-        value_at true (value_name (entity_name entity.now) (rc_str_bytes name.now)) (found_part (option_copied found.entry))) }
+        value_at true (value_name (entity_name entity.now) (rc_str_bytes name.now))
+        (found_part (option_copied found.entry))) }
     ensures restricted { IfOk result (λ p. is_restricted_part (partial_view p) ≡ true) }
 {
     match found {
@@ -222,7 +223,8 @@ fn found_tag(
 ) -> Result<PartialValue, AllocError>
     requires { IfSome found (λ p. is_restricted_part (partial_view p.now) ≡ true) }
     ensures view { IfOk result (λ p. partial_view p ≡
-        value_at true (tag_name (entity_name entity.now) (rc_str_bytes name.now)) (found_part (option_copied found.entry))) }
+        value_at true (tag_name (entity_name entity.now) (rc_str_bytes name.now))
+        (found_part (option_copied found.entry))) }
     ensures restricted { IfOk result (λ p. is_restricted_part (partial_view p) ≡ true) }
 {
     match found {

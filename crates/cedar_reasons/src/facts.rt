@@ -5,7 +5,8 @@ ghost use Rattle.cedar_names.specs.Names.{uid_name};
 ghost use Rattle.cedar_layers.specs.Stores.{entity_name};
 ghost use Rattle.cedar_requests.specs.Requests.{request_view, context_given};
 ghost use Rattle.cedar_reasons.specs.Facts.{fact_view, facts_view, is_principal, is_action, is_resource};
-ghost use Rattle.cedar_reasons.specs.Facts.{is_context, is_context_value, is_absence, is_entity, is_attribute, is_tag, is_same, is_kept, is_one_of};
+ghost use Rattle.cedar_reasons.specs.Facts.{is_context, is_context_value, is_absence, is_entity};
+ghost use Rattle.cedar_reasons.specs.Facts.{is_attribute, is_tag, is_same, is_kept, is_one_of};
 ghost use Rattle.cedar_reasons.specs.Facts.{lent, facts_of_entity, attribute_facts, tag_facts, of_attribute, of_tag};
 ghost use Rattle.cedar_reasons.specs.Facts.{context_facts, no_entity_facts, every_fact};
 

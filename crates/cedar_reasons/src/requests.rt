@@ -15,10 +15,10 @@ use std::alloc::{AllocError, Global};
 
 /// The request, and the store of these entities, of which these facts alone are kept. A kept entry is as it was, and
 /// one that is left out an unknown of its type; a context that is left out is absent, and one that is kept has its
-/// names, with the values that are kept and unknowns for the others. The store has the entities that are kept, with their ancestors, attributes and tags: a value that is kept is as it was, and in place of one that is
-/// left out stands an unknown of its own (`names_are_apart`). It is concrete if each entity is kept and
-/// `NoOtherEntity`, and else partial. Facts of an entity that is not kept, or that is not there, say nothing. Refuses
-/// only if out of memory.
+/// names, with the values that are kept and unknowns for the others. The store has the entities that are kept, with
+/// their ancestors, attributes and tags: a value that is kept is as it was, and in place of one that is left out stands
+/// an unknown of its own (`names_are_apart`). It is concrete if each entity is kept and `NoOtherEntity`, and else
+/// partial. Facts of an entity that is not kept, or that is not there, say nothing. Refuses only if out of memory.
 pub fn reduced(
     alloc: Global,
     request: &Request,
