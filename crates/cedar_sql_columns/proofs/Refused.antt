@@ -1,10 +1,10 @@
 -- How refusals are passed on.
-use Rattle.std.proofs.Common.{◌≡◌, List, [], ◌∷◌, ◌++◌, Ok, Err, refl, sym, ap, ◌∙◌, subst, append_assoc, append-nil}
+use Rattle.std.proofs.Common.{◌∷◌, List, Err, sym, ap, ◌∙◌, subst}
 use Rattle.cedar_sql_columns.specs.declared.errors.ColumnsError.{ColumnsError}
 use Rattle.cedar_sql_columns.specs.declared.errors.ColumnsError.TheVariants as errors
 use Rattle.cedar_sql_columns.specs.declared.errors.RefusalReason.{RefusalReason}
 use Rattle.cedar_sql_columns.specs.Paths.{Step}
-use Rattle.cedar_sql_columns.specs.Refusals.{Said, under, before, made_of, and_then, IsRefusal, IsRefusedAt, IsUnder, IsMemory}
+use Rattle.cedar_sql_columns.specs.Refusals.{Said, under, made_of, and_then, IsRefusal, IsRefusedAt, IsUnder, IsMemory}
 
 pub refused_at : (T : Type 0) (path : List Step) (r : RefusalReason) (e : ColumnsError) → IsRefusedAt path r e → IsRefusal {T = T} (Err (record { path = path; reason = r })) e
 refused_at T path r errors.Syntax h = h
@@ -38,26 +38,5 @@ refused_then f said errors.Syntax h = h
 refused_then f said errors.DuplicateKey h = h
 refused_then f said (errors.Refused p t) h = ap (and_then f) h
 refused_then f said (errors.Memory m) h = tt
-
-one_done : {T : Type 0} (done : List T) (t : T) (others : Said (List T)) → made_of (λ ts. done ++ ts) (before (Ok t) others) ≡ made_of (λ ts. (done ++ t ∷ []) ++ ts) others
-one_done done t (Ok ts) = ap Ok (sym (append_assoc done (t ∷ []) ts))
-one_done done t (Err r) = refl
-
-pub one_more_done : {T : Type 0} (all : Said (List T)) (done : List T) (first : Said T) (others : Said (List T)) (new : List T)
-    → all ≡ made_of (λ ts. done ++ ts) (before first others) → made_of (λ t. done ++ t ∷ []) first ≡ Ok new → all ≡ made_of (λ ts. new ++ ts) others
-one_more_done all done (Ok t) others new is h =
-    let same : done ++ t ∷ [] ≡ new = cc in
-    is ∙ one_done done t others ∙ ap (λ (ts : List _). made_of (λ us. ts ++ us) others) same
-one_more_done all done (Err r) others new is h = absurd (cc)
-
-all_done : {T : Type 0} (done : List T) → made_of (λ ts. done ++ ts) (Ok []) ≡ Ok done
-all_done done = ap Ok (append-nil done)
-
-pub none_left : {T : Type 0} (all : Said (List T)) (done : List T) → all ≡ made_of (λ ts. done ++ ts) (Ok []) → all ≡ Ok done
-none_left all done is = is ∙ all_done done
-
-pub none_done : {T : Type 0} (s : Said (List T)) → s ≡ made_of (λ ts. [] ++ ts) s
-none_done (Ok ts) = refl
-none_done (Err r) = refl
 
 pub ruleset refusals = (refused_at, memory_refused, refused_under, refused_made, refused_then)

@@ -31,6 +31,7 @@ reason_text reasons.NotAnArray = codes "not an array"
 reason_text reasons.NotAText = codes "not a text"
 reason_text reasons.NotHeld = codes "not Bool, Long, String or Record"
 reason_text reasons.NotAnAttribute = codes "no attribute"
+reason_text reasons.DuplicateAttribute = codes "duplicate attribute"
 reason_text reasons.UnexpectedMember = codes "a member too many"
 reason_text reasons.MissingMember = codes "missing"
 
@@ -39,6 +40,6 @@ refusal_text path reason = path_text path ++ (codes ": " ++ reason_text reason)
 
 abbrev pub error_text : ColumnsError → Text
 error_text errors.Syntax = codes "not JSON"
-error_text errors.DuplicateKey = codes "a key comes twice in an object"
+error_text errors.DuplicateKey = codes "duplicate key"
 error_text (errors.Refused path reason) = refusal_text (path_view path) reason
 error_text (errors.Memory error) = codes "out of memory"

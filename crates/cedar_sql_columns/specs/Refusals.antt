@@ -27,12 +27,6 @@ abbrev pub under : {T : Type 0} → Step → Said T → Said T
 under s (Ok t) = Ok t
 under s (Err r) = Err (record { path = s ∷ r.path; reason = r.reason })
 
--- what the part says and the others, or the first refusal
-abbrev pub before : {T : Type 0} → Said T → Said (List T) → Said (List T)
-before (Ok t) (Ok ts) = Ok (t ∷ ts)
-before (Ok t) (Err r) = Err r
-before (Err r) ts = Err r
-
 -- what is made of what was said
 abbrev pub made_of : {T U : Type 0} → (T → U) → Said T → Said U
 made_of f (Ok t) = Ok (f t)

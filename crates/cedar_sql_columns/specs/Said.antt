@@ -5,9 +5,10 @@ use Rattle.json.specs.Json.{Json, Items, no_items, item, Members, no_members, me
 use Rattle.json.specs.Find.{as_str, as_array, as_object}
 use Rattle.json.specs.Strict.{keys}
 use Rattle.cedar_model.specs.Terms.{Text}
+use Rattle.cedar_model.specs.Outcomes.{text_eq}
 use Rattle.cedar_sql_columns.specs.declared.errors.RefusalReason.TheVariants as reasons
 use Rattle.cedar_sql_columns.specs.Paths.{at_key, at_index}
-use Rattle.cedar_sql_columns.specs.Refusals.{Said, refused, under, before, made_of, and_then}
+use Rattle.cedar_sql_columns.specs.Refusals.{Said, refused, under, made_of, and_then}
 use Rattle.cedar_sql_columns.specs.Shapes.{one_at, two_at, three_at, text_said}
 
 -- the text at this key
@@ -56,6 +57,14 @@ is_entity the_entity = true
 is_entity (attribute_in p k) = false
 is_entity elsewhere = false
 
+-- the same attribute
+abbrev pub place_eq : Place → Place → Bool
+place_eq the_entity q = is_entity q
+place_eq (attribute_in p k) the_entity = false
+place_eq (attribute_in p k) (attribute_in q l) = if text_eq k l then place_eq p q else false
+place_eq (attribute_in p k) elsewhere = false
+place_eq elsewhere q = false
+
 -- the attribute that the text of this index names
 abbrev pub step_said : Place → ℕ → Json → Said Place
 step_said p n j = made_of (attribute_in p) (under (at_index n) (text_said j))
@@ -97,10 +106,29 @@ column_parts n p = and_then (with_attribute n p.1) (under (at_key (codes "attrib
 abbrev pub column_said : ℕ → Json → Said SaidColumn
 column_said n j = and_then (column_parts n) (two_at (codes "attribute") (codes "holds") j)
 
--- those of an object's members, the first at this place
+-- whether one of these columns holds the attribute
+abbrev pub is_held : Place → List SaidColumn → Bool
+is_held p [] = false
+is_held p (c ∷ cs) = if place_eq c.attribute p then true else is_held p cs
+
+-- a column behind others, none of which holds its attribute
+abbrev pub new_column : List SaidColumn → SaidColumn → Said SaidColumn
+new_column done c = if is_held c.attribute done then refused reasons.DuplicateAttribute else Ok c
+
+abbrev pub new_column_said : List SaidColumn → ℕ → Json → Said SaidColumn
+new_column_said done n j = and_then (new_column done) (column_said n j)
+
+-- these columns, and the one of a member
+abbrev pub one_more_said : List SaidColumn → ℕ → Text → Json → Said (List SaidColumn)
+one_more_said done n k j = made_of (λ c. done ++ c ∷ []) (under (at_key k) (new_column_said done n j))
+
+-- these columns, and those of an object's members, the first at this place
+abbrev pub columns_after : List SaidColumn → ℕ → Members → Said (List SaidColumn)
+columns_after done n no_members = Ok done
+columns_after done n (member k j ms) = and_then (λ cs. columns_after cs (n + 1) ms) (one_more_said done n k j)
+
 abbrev pub columns_said : ℕ → Members → Said (List SaidColumn)
-columns_said n no_members = Ok []
-columns_said n (member k j ms) = before (under (at_key k) (column_said n j)) (columns_said (n + 1) ms)
+columns_said n ms = columns_after [] n ms
 
 -- ---- tables
 

@@ -1,5 +1,5 @@
 -- Tables as plain data.
-use Rattle.std.specs.Prelude.{◌≡◌, List, [], ◌∷◌, ◌++◌, map, Ok}
+use Rattle.std.specs.Prelude.{map}
 use Rattle.std.specs.Rc.{rc_str_bytes}
 use Rattle.cedar_names.specs.Names.{type_text}
 use Rattle.cedar_filter.specs.declared.conditions.Operand.{Operand}
@@ -12,7 +12,6 @@ use Rattle.cedar_sql.specs.declared.columns.RowType.TheVariants as rows
 use Rattle.cedar_sql_columns.specs.declared.tables.SqlTable.{SqlTable}
 use Rattle.cedar_sql_columns.specs.declared.tables.TypeNamed.{TypeNamed}
 use Rattle.cedar_sql_columns.specs.declared.tables.TypeNamed.TheVariants as named
-use Rattle.cedar_sql_columns.specs.Refusals.{Said, made_of}
 use Rattle.cedar_sql_columns.specs.Said.{Held, a_bool, a_long, a_string, a_record, an_entity_of}
 use Rattle.cedar_sql_columns.specs.Said.{Place, the_entity, attribute_in, elsewhere, SaidColumn}
 use Rattle.cedar_sql_columns.specs.Said.{TypeSaid, all_of, held_in, TypesOf, of_one, of_several, SaidTable}
@@ -49,7 +48,3 @@ table_view t = record {
 abbrev pub type_view : TypeNamed → TypeSaid
 type_view (named.AllOf t) = all_of t.now
 type_view (named.HeldIn c) = held_in c.now
-
--- the new list has one more at its end, which is what was said
-abbrev pub IsOneMore : {T : Type 0} → List T → Said T → List T → Type 0
-IsOneMore old s new = made_of (λ t. old ++ t ∷ []) s ≡ Ok new

@@ -8,11 +8,12 @@ ghost use Rattle.cedar_names.specs.Names.{type_text};
 ghost use Rattle.cedar_sql_columns.specs.Paths.{at_key, at_index};
 ghost use Rattle.cedar_sql_columns.specs.Refusals.{IsRefusal, IsMemory, under, made_of};
 ghost use Rattle.cedar_sql_columns.specs.Said as says;
-ghost use Rattle.cedar_sql_columns.specs.Tables.{IsOneMore, column_view, held_view, operand_view};
+ghost use Rattle.cedar_sql_columns.specs.Tables.{column_view, held_view, operand_view};
 
 use crate::errors::{ColumnsError, RefusalReason};
 use crate::shapes::{array, one_member, text, text_at, two_members};
 use cedar_filter::Operand;
+use cedar_names::shared::same_text;
 use cedar_names::{EntityType, Name};
 use cedar_sql::{Column, ColumnType};
 use json::Value;
@@ -67,13 +68,12 @@ fn put_column(
     place: usize,
     columns: &mut Vec<Column>,
 ) -> Result<(), ColumnsError>
-    ensures said { OnOk result (IsOneMore (map column_view columns.old.items)
-        (under (at_key key.now) (says.column_said place (value_view value.now)))
-        (map column_view columns.new.items)) }
+    ensures said { OnOk result (says.one_more_said (map column_view columns.old.items) place key.now
+        (value_view value.now) ≡ Ok (map column_view columns.new.items)) }
     ensures refused { IfErr result
-        (IsRefusal (under (at_key key.now) (says.column_said place (value_view value.now)))) }
+        (IsRefusal (says.one_more_said (map column_view columns.old.items) place key.now (value_view value.now))) }
 {
-    match read_column(alloc, value, place) {
+    match read_new_column(alloc, value, place, columns) {
         Ok(column) => push_column(column, columns),
         Err(error) => Err(error.under_key(alloc, key)),
     }
@@ -87,6 +87,66 @@ fn push_column(column: Column, columns: &mut Vec<Column>) -> Result<(), ColumnsE
     match columns.push(column) {
         Ok(()) => Ok(()),
         Err(failed) => Err(ColumnsError::from(failed)),
+    }
+}
+
+// A column whose attribute none of these columns holds.
+fn read_new_column(
+    alloc: Global,
+    value: &Value<'_>,
+    place: usize,
+    columns: &Vec<Column>,
+) -> Result<Column, ColumnsError>
+    ensures said { IfOk result (λ c. says.new_column_said (map column_view columns.now.items) place
+        (value_view value.now) ≡ Ok (column_view c)) }
+    ensures refused { IfErr result
+        (IsRefusal (says.new_column_said (map column_view columns.now.items) place (value_view value.now))) }
+{
+    match read_column(alloc, value, place) {
+        Ok(column) => new_column(alloc, column, columns),
+        Err(error) => Err(error),
+    }
+}
+
+fn new_column(alloc: Global, column: Column, columns: &Vec<Column>) -> Result<Column, ColumnsError>
+    ensures said { IfOk result
+        (λ c. says.new_column (map column_view columns.now.items) (column_view column) ≡ Ok (column_view c)) }
+    ensures refused { IfErr result
+        (IsRefusal (says.new_column (map column_view columns.now.items) (column_view column))) }
+{
+    if is_held(&column.attribute, columns) {
+        drop(column);
+        Err(ColumnsError::refusal(alloc, RefusalReason::DuplicateAttribute))
+    } else {
+        Ok(column)
+    }
+}
+
+// Whether one of the columns holds the attribute.
+fn is_held(attribute: &Operand, columns: &Vec<Column>) -> bool
+    ensures { result ≡ says.is_held (operand_view attribute.now) (map column_view columns.now.items) }
+{
+    'columns: for column in columns {
+        if is_same_attribute(&column.attribute, attribute) {
+            return true;
+        }
+    }
+    false
+}
+
+fn is_same_attribute(attribute: &Operand, other: &Operand) -> bool
+    ensures { result ≡ says.place_eq (operand_view attribute.now) (operand_view other.now) }
+{
+    match attribute {
+        Operand::Known(_) => false,
+        Operand::Row => is_row(other),
+        Operand::Attribute(of, name) => match other {
+            Operand::Known(_) => false,
+            Operand::Row => false,
+            Operand::Attribute(other_of, other_name) => {
+                same_text(name, other_name) && is_same_attribute(of, other_of)
+            }
+        },
     }
 }
 

@@ -21,6 +21,8 @@ pub enum RefusalReason {
     NotHeld,
     /// An array that names no attribute: it has no text.
     NotAnAttribute,
+    /// A column that holds the attribute of one before it.
+    DuplicateAttribute,
     /// An object has a member besides those that it must have.
     UnexpectedMember,
     /// A member that the object must have.
@@ -133,6 +135,7 @@ impl fmt::Display for RefusalReason {
             RefusalReason::NotAText => f.write_str("not a text"),
             RefusalReason::NotHeld => f.write_str("not Bool, Long, String or Record"),
             RefusalReason::NotAnAttribute => f.write_str("no attribute"),
+            RefusalReason::DuplicateAttribute => f.write_str("duplicate attribute"),
             RefusalReason::UnexpectedMember => f.write_str("a member too many"),
             RefusalReason::MissingMember => f.write_str("missing"),
         }
@@ -149,7 +152,7 @@ impl fmt::Display for ColumnsError {
     fn fmt<W: fmt::Write>(&self, f: &mut fmt::Formatter<W>) -> fmt::Result {
         match self {
             ColumnsError::Syntax => f.write_str("not JSON"),
-            ColumnsError::DuplicateKey => f.write_str("a key comes twice in an object"),
+            ColumnsError::DuplicateKey => f.write_str("duplicate key"),
             ColumnsError::Refused { path, reason } => write_refusal(path, *reason, f),
             ColumnsError::Memory(_) => f.write_str("out of memory"),
         }
