@@ -4,8 +4,9 @@ use Rattle.std.proofs.lemmas.List.{append_cancel_right}
 use Rattle.std.proofs.lemmas.List.Sums.{fold-append}
 use Rattle.std.specs.List.{fold}
 use Rattle.std.specs.declared.alloc.AllocError.{AllocError}
+use Rattle.std.specs.declared.alloc.Global.{Global}
 use Rattle.std.specs.declared.string.String.{String}
-use Rattle.json.specs.Token.{Token, begin_object, end_object, begin_array, end_array, key}
+use Rattle.json.specs.Token.{Token, begin_object, end_object, key}
 use Rattle.json.specs.Json.{Json, null, boolean, number, string, array, object, Items, no_items, item, Members, no_members, member}
 use Rattle.json.specs.Print.{print, print_from, token_text, separator, ends, quoted}
 use Rattle.json.specs.Tree.{json_tokens, items_tokens, members_tokens}
@@ -79,7 +80,7 @@ unfolding print_from
 closing true = refl
 closing false = refl
 
-pub line_is : (ms : List (Text × Json)) → object_line ms ≡ front ms ++ codes "}\n"
+line_is : (ms : List (Text × Json)) → object_line ms ≡ front ms ++ codes "}\n"
 unfolding front
 line_is ms =
     ap (λ (ts : List Token). print_from false (begin_object ∷ ts) ++ codes "\n") (inner_closed ms)
@@ -117,7 +118,7 @@ put_in f a b c d =
     (append_assoc b (c ++ d) (codes "}\n") ∙ ap (λ (t : Text). b ++ t) (append_assoc c d (codes "}\n"))))
 
 -- one more behind what stands before the end
-pub joined : (m : Text × Json) (ms : List (Text × Json)) (k : Text) (j : Json) (line start s : Text)
+joined : (m : Text × Json) (ms : List (Text × Json)) (k : Text) (j : Json) (line start s : Text)
     → line ≡ object_line (m ∷ ms) → line ≡ start ++ codes "}\n" → s ≡ start ++ behind k j
     → s ≡ object_line (m ∷ ms ++ (k, j) ∷ [])
 joined m ms k j line start s is begins so =
@@ -129,16 +130,16 @@ joined m ms k j line start s is begins so =
     ∙ sym (line_is (m ∷ ms ++ (k, j) ∷ []))
 
 -- a line of an object ends so
-pub ends_so : (m : Text × Json) (ms : List (Text × Json)) (line : Text) → line ≡ object_line (m ∷ ms)
+ends_so : (m : Text × Json) (ms : List (Text × Json)) (line : Text) → line ≡ object_line (m ∷ ms)
     → line ≡ front (m ∷ ms) ++ codes "}\n"
 ends_so m ms line is = is ∙ line_is (m ∷ ms)
 
-pub one_more : (line start k : Text) (j : Json) (r : Result String AllocError) → line ≡ start ++ codes "}\n"
+pub one_more : (line start k : Text) (j : Json) (r : Result (String Global) AllocError) → line ≡ start ++ codes "}\n"
     → IfOk r (λ s. string_bytes s ≡ start ++ behind k j) → IfOk r (λ s. IsOneMore line k j (string_bytes s))
 one_more line start k j (Ok s) begins so = λ m ms is. joined m ms k j line start (string_bytes s) is begins so
 one_more line start k j (Err e) begins so = tt
 
-pub never : (line k : Text) (j : Json) (r : Result String AllocError) → IsFront line None
+pub never : (line k : Text) (j : Json) (r : Result (String Global) AllocError) → IsFront line None
     → IfOk r (λ s. IsOneMore line k j (string_bytes s))
 never line k j (Ok s) none = λ m ms is. absurd (none (front (m ∷ ms)) (ends_so m ms line is))
 never line k j (Err e) none = tt

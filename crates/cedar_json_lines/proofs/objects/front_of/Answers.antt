@@ -1,4 +1,3 @@
-use Rattle.std.proofs.Common.{codes}
 use Rattle.cedar_json_lines.proofs.Cutting.{cut_end}
 use Rattle.cedar_json_lines.proofs.objects.front_of.Goals as goal
 

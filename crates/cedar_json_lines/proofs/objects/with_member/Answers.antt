@@ -1,7 +1,5 @@
 -- A line of an object ends as it is cut, and the member stands before that end.
-use Rattle.std.proofs.Common.{Ok, Err, Result, IfOk, string_bytes}
 use Rattle.cedar_json_writer.specs.Trees.{json_view}
-use Rattle.cedar_json_lines.specs.Objects.{IsOneMore}
 use Rattle.cedar_json_lines.proofs.Joining.{one_more, never}
 use Rattle.cedar_json_lines.proofs.objects.with_member.Goals as goal
 
