@@ -159,10 +159,7 @@ fn diff<'a>(alloc: Global) -> Result<Command<'a>, AllocError> {
 
 fn explain<'a>(alloc: Global) -> Result<Arg<'a>, AllocError> {
     let help = "Prints why too: the parts of each policy that decide it";
-    flag(alloc, "explain", help)
-        .conflicts_with("json")?
-        .conflicts_with("limit")?
-        .conflicts_with("requests")
+    flag(alloc, "explain", help).conflicts_with("requests")
 }
 
 fn no_values<'a>(alloc: Global) -> Result<Arg<'a>, AllocError> {

@@ -6,6 +6,7 @@ use cedar_cli::{
     authorize_each, check_format, check_policies, check_strictly, evaluate_expression,
     format_policies, partially_authorize, translate_to_json,
 };
+use cedar_cli_explain::authorize_and_explain_as_json;
 use cedar_cli_sql::plan_as_sql;
 use cedar_policy_core::ast::{Extension, ExtensionFunction, Name};
 use cedar_policy_core::extensions::Extensions;
@@ -145,10 +146,24 @@ fn decide(
         return authorize_each(alloc, policies, asked, requests, way);
     }
     if matches.get_flag("explain") {
-        let has_values = !matches.get_flag("no-values");
-        authorize_and_explain(alloc, policies, asked, way, has_values)
+        explain(alloc, policies, asked, way, !matches.get_flag("no-values"))
     } else {
         authorize(alloc, policies, asked, way)
+    }
+}
+
+// With `--json` as one value.
+fn explain(
+    alloc: Global,
+    policies: Source<'_>,
+    asked: &Asked<'_, '_>,
+    way: Way,
+    has_values: bool,
+) -> Result<Printed, Refusal> {
+    if way.is_json {
+        authorize_and_explain_as_json(alloc, policies, asked, way, has_values)
+    } else {
+        authorize_and_explain(alloc, policies, asked, way, has_values)
     }
 }
 
