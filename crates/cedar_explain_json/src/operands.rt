@@ -21,13 +21,13 @@ fn put_operands<'x>(part: &'x Expr, found: &mut Vec<&'x Expr>) -> Result<(), All
         (terms_seen found.new.items ≡ terms_seen found.old.items ++ operands (view part.now)) }
 {
     match part.expr_kind() {
-        ExprKind::Lit(_) => Ok(()),
-        ExprKind::Var(_) => Ok(()),
-        ExprKind::Slot(_) => Ok(()),
-        ExprKind::Unknown(_) => Ok(()),
-        ExprKind::If { .. } => Ok(()),
-        ExprKind::And { .. } => Ok(()),
-        ExprKind::Or { .. } => Ok(()),
+        ExprKind::Lit(_) => put_none(found),
+        ExprKind::Var(_) => put_none(found),
+        ExprKind::Slot(_) => put_none(found),
+        ExprKind::Unknown(_) => put_none(found),
+        ExprKind::If { .. } => put_none(found),
+        ExprKind::And { .. } => put_none(found),
+        ExprKind::Or { .. } => put_none(found),
         ExprKind::UnaryApp { op: _, arg } => put_operand(arg, found),
         ExprKind::BinaryApp { op: _, arg1, arg2 } => put_two(arg1, arg2, found),
         ExprKind::ExtensionFunctionApp { fn_name: _, args } => put_each(args, found),
@@ -39,9 +39,15 @@ fn put_operands<'x>(part: &'x Expr, found: &mut Vec<&'x Expr>) -> Result<(), All
             expr,
             entity_type: _,
         } => put_operand(expr, found),
-        ExprKind::Set(_) => Ok(()),
-        ExprKind::Record(_) => Ok(()),
+        ExprKind::Set(_) => put_none(found),
+        ExprKind::Record(_) => put_none(found),
     }
+}
+
+fn put_none<'x>(found: &mut Vec<&'x Expr>) -> Result<(), AllocError>
+    ensures { OnOk result (terms_seen found.new.items ≡ terms_seen found.old.items ++ []) }
+{
+    Ok(())
 }
 
 fn put_two<'x>(

@@ -115,7 +115,8 @@ fn put_other(
         ≡ members_seen members.old.items ++ specs.other_outcome has_values (value_answer answer.now)) }
 {
     put_text(alloc, "outcome", "otherValue", members)?;
-    put_if_value(alloc, answer, has_values, members)
+    put_if_value(alloc, answer, has_values, members)?;
+    Ok(())
 }
 
 fn put_if_value(
