@@ -65,6 +65,7 @@ pub(crate) fn link<R: Files + Input + AllocGlobal>(
     matches: &ArgMatches<'_>,
 ) -> Result<Printed, Refusal> {
     refuse_second_input(rt.alloc(), matches)?;
+    refuse_input_as_list(rt.alloc(), matches)?;
     let policies = policies_of(rt, matches)?;
     let links = text_of(rt, matches.get_str("template-linked"))?;
     let added = added_link(rt.alloc(), &policies, &links, matches);
@@ -77,6 +78,19 @@ pub(crate) fn link<R: Files + Input + AllocGlobal>(
         warnings: String::new(rt.alloc()),
         status: 0,
     })
+}
+
+// Standard input can't be written.
+fn refuse_input_as_list(alloc: Global, matches: &ArgMatches<'_>) -> Result<(), Refusal> {
+    if matches.get_str("template-linked") == Some("-") {
+        let line = String::from_str(
+            alloc,
+            "`-` is standard input: the file of links is written too",
+        );
+        Err(refuse_with_line(alloc, line))
+    } else {
+        Ok(())
+    }
 }
 
 fn added_link(

@@ -1,11 +1,11 @@
 -- Entities in place of slots mean what the slots mean.
-use Rattle.std.proofs.Common.{◌≡◌, refl, sym, ap, ◌∙◌, Option, Some, None, cond}
-use Rattle.cedar_model.specs.Outcomes.{Outcome}
+use Rattle.std.proofs.Common.{◌≡◌, refl, sym, ap, ◌∙◌, false, Option, Some, None, cond}
+use Rattle.cedar_model.specs.Outcomes.{Outcome, gives_bool, and_then}
 use Rattle.cedar_model.specs.Terms.{EntityName, Slot, Term, literal, variable, slot, unknown, if_then_else, both, either, unary, binary, call, get_attribute, has_attribute, extended_has, like, is_of_type, set_of, record_of}
-use Rattle.cedar_model.specs.World.{World, Slots}
+use Rattle.cedar_model.specs.World.{World, Slots, Extensions, Functions}
 use Rattle.cedar_model.specs.Agreement.{no_slots}
-use Rattle.cedar_model.specs.Meaning.{Functions, Extensions, meaning, and_then, and_then_bool, gives_bool, binary_meaning, slot_meaning}
-use Rattle.cedar_policy_json_text.specs.Placed.{placed, placed_slot, PlacedMeansTheSame, NothingIsPlaced}
+use Rattle.cedar_model.specs.Meaning.{meaning, and_then_bool, binary_meaning, slot_meaning}
+use Rattle.cedar_policy_json_text.specs.Placed.{placed, placed_slot, PlacedMeansTheSame}
 
 module _ (X : Extensions) (ans : Functions) (w : World) (s : Slots) where
   of_slot : (x : Slot) (o : Option EntityName) → s x ≡ o → meaning X ans w s (placed_slot x o) ≡ meaning X ans w s (slot x)

@@ -1,10 +1,10 @@
 -- Linked policies with their entities in place of slots, as a text has them.
 use Rattle.std.specs.Prelude.{◌≡◌, Bool, ◌||◌, false, List, [], ◌∷◌, if◌then◌else◌, Option, Some, None}
 use Rattle.cedar_model.specs.Terms.{Text, EntityName, entity_literal, Slot, Term, literal, slot, both, binary}
-use Rattle.cedar_model.specs.World.{World, Slots}
+use Rattle.cedar_model.specs.World.{World, Slots, Extensions, Functions}
 use Rattle.cedar_model.specs.Agreement.{no_slots}
 use Rattle.cedar_model.specs.Outcomes.{text_eq}
-use Rattle.cedar_model.specs.Meaning.{Functions, Extensions, meaning}
+use Rattle.cedar_model.specs.Meaning.{meaning}
 use Rattle.cedar_layers.specs.Policies.{PolicyView, condition_term}
 use Rattle.cedar_template_links.specs.Links.{LinkView}
 use Rattle.cedar_policy_set_reader.specs.PolicySets.{PolicySetView}

@@ -1,5 +1,6 @@
 -- What a file of links says, in which an entity is Cedar's text of it.
 use Rattle.std.specs.Prelude.{◌≡◌, ⊤, ◌⊎◌, ℕ, ◌+◌, List, [], ◌∷◌, ◌++◌, Option, Some, None, option_map, Ok}
+use Rattle.std.specs.Borrow.{Bor}
 use Rattle.json.specs.Json.{Json, Items, no_items, item}
 use Rattle.json.specs.Find.{as_array}
 use Rattle.cedar_model.specs.Terms.{Text, EntityName}
@@ -29,8 +30,8 @@ abbrev pub written_view : WrittenLink → WrittenView
 written_view w = record {
   template_id = w.template_id.now;
   new_id = w.new_id.now;
-  principal = option_map (λ t. t.now) w.principal;
-  resource = option_map (λ t. t.now) w.resource;
+  principal = option_map (λ (t : Bor Text). t.now) w.principal;
+  resource = option_map (λ (t : Bor Text). t.now) w.resource;
 }
 
 -- ---- the JSON
