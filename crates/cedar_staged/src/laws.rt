@@ -1,0 +1,20 @@
+//! What holds of responses that crossed a wire. Each function is a law, and does nothing.
+ghost use Rattle.cedar_authorizer.specs.Configured.{configuration, DifferInResolution};
+ghost use Rattle.cedar_staged.specs.Wires.{TakesItsChainsFurther};
+
+use cedar_authorizer::authorizer::{Authorizer, PartialResponse};
+
+/// The headline of a chain whose steps ran on different machines. Where a chain gives a response without the recursion
+/// limit, and another response says the same, as one that was read of what was written of the first, then what
+/// `reauthorize` answers from that other one is what the chain with that step gives, a refusal too. So, by
+/// `steps_make_a_chain`, it has the headline. The authorizers differ in their resolution alone: they use the same
+/// extensions. That what is told of the errors is the same is not asked.
+pub fn steps_from_the_same_go_on(
+    authorizer: &Authorizer<'_>,
+    next: &Authorizer<'_>,
+    response: &PartialResponse,
+    read: &PartialResponse,
+)
+    ensures { DifferInResolution authorizer.now next.now → TakesItsChainsFurther (configuration authorizer.now)
+        (configuration next.now) response.now read.now }
+{}
