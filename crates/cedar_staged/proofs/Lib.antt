@@ -1,3 +1,4 @@
 pub mod Same
 pub mod Kept
+pub mod Read
 pub mod Refused

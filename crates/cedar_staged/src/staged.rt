@@ -131,9 +131,9 @@ impl<'f, 's> Staged<'f, 's> {
                 self.response = response;
                 Ok(())
             }
-            Err(failed) => {
+            Err(_) => {
                 drop(response);
-                Err(StageError::from(failed))
+                Err(StageError::Memory(AllocError))
             }
         }
     }

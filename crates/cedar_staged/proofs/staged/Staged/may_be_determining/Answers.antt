@@ -1,0 +1,5 @@
+use Rattle.cedar_staged.proofs.Read.{has_headline}
+use Rattle.cedar_staged.proofs.staged.Staged.may_be_determining.Goals as goal
+
+pub returns-clause-headline : goal.returns-clause-headline
+returns-clause-headline g c = has_headline c.args.self.now
