@@ -7,4 +7,5 @@ pub mod Documents
 pub mod Several
 pub mod Tokens
 pub mod Found
+pub mod Partials
 pub mod Served

@@ -21,6 +21,7 @@ route_of m p =
     if bytes_eq p (codes "/access/v1/search/action") then posted (routes.Search soughts.Action) m else (
     if bytes_eq p (codes "/access/v1/search/resource") then posted (routes.Search soughts.Resource) m else (
     if bytes_eq p (codes "/v1/authorize") then posted routes.Authorize m else (
+    if bytes_eq p (codes "/v1/partially-authorize") then posted routes.PartiallyAuthorize m else (
     if bytes_eq p (codes "/healthz") then shown routes.Health m else (
     if bytes_eq p (codes "/.well-known/authzen-configuration") then shown routes.Metadata m else
-    routes.Unknown)))))))
+    routes.Unknown))))))))

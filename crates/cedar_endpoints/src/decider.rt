@@ -3,10 +3,13 @@ ghost use Rattle.std.specs.Prelude.{◌≡◌, ℕ, List, IfOk};
 ghost use Rattle.cedar_endpoints.specs.declared.replies.Outcome.{Outcome};
 ghost use Rattle.cedar_endpoints.specs.declared.replies.Finding.{Finding};
 ghost use Rattle.cedar_endpoints.specs.Asked as asked;
+ghost use Rattle.cedar_endpoints.specs.declared.replies.Remainder.{Remainder};
 ghost use Rattle.cedar_endpoints.specs.Searches as searches;
+ghost use Rattle.cedar_endpoints.specs.Partials as partials;
 
 use crate::asked::Evaluation;
-use crate::replies::{Finding, Outcome};
+use crate::partials::Partial;
+use crate::replies::{Finding, Outcome, Remainder};
 use crate::searches::Search;
 use std::alloc::{AllocError, Global};
 
@@ -23,6 +26,9 @@ pub trait Decider {
 
     // How many candidates there are for any search.
     ghost count: { Self → ℕ };
+
+    // What may be left of the policies for this request.
+    ghost leaves: { Self → partials.Partial → Remainder → Type 0 };
 
     // What may be decided for the request that this text writes.
     ghost authorizes: { Self → List ℕ → Outcome → Type 0 };
@@ -53,4 +59,13 @@ pub trait Decider {
     /// What is decided for the request that this text writes, or why nothing is. Refuses only if out of memory.
     fn authorize(&self, alloc: Global, text: &str) -> Result<Outcome, AllocError>
         ensures { IfOk result (authorizes self.now text.now) };
+
+    /// What is left of the policies for a request of which parts may be unknown, or why nothing is told. Refuses only if
+    /// out of memory.
+    fn authorize_partially(
+        &self,
+        alloc: Global,
+        request: &Partial<'_, '_>,
+    ) -> Result<Remainder, AllocError>
+        ensures { IfOk result (leaves self.now (partials.partial_view request.now)) };
 }

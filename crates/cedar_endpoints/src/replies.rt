@@ -33,6 +33,15 @@ pub enum Finding {
     },
 }
 
+/// What is left of policies, or why nothing is told.
+#[derive(Debug, Drop)]
+pub enum Remainder {
+    /// What is left, as JSON.
+    Told { response: String },
+    /// Nothing is told: the error, as JSON.
+    Refused { error: String },
+}
+
 /// A status, and a JSON text.
 #[derive(Debug, Drop)]
 pub struct Reply {

@@ -15,6 +15,8 @@ pub enum Route {
     Search(Sought),
     /// A decision, as Cedar's JSON asks for it.
     Authorize,
+    /// What is left of the policies, as Cedar's JSON asks for it.
+    PartiallyAuthorize,
     /// Whether the service answers.
     Health,
     /// Where AuthZEN's endpoints are.
@@ -43,6 +45,8 @@ pub fn route_of(method: &str, path: &str) -> Route
         posted(Route::Search(Sought::Resource), method)
     } else if path == "/v1/authorize" {
         posted(Route::Authorize, method)
+    } else if path == "/v1/partially-authorize" {
+        posted(Route::PartiallyAuthorize, method)
     } else if path == "/healthz" {
         shown(Route::Health, method)
     } else if path == "/.well-known/authzen-configuration" {

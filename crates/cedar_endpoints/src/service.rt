@@ -15,6 +15,7 @@ use crate::decider::Decider;
 use crate::documents::{Unread, parse_json};
 use crate::evaluations::{decide_said, evaluate_all};
 use crate::found::search_value;
+use crate::partials::answer_partly;
 use crate::replies::{Outcome, Reply, faulty, plain, refused};
 use crate::routes::{Route, route_of};
 use crate::searches::Sought;
@@ -33,6 +34,8 @@ pub(crate) enum Asks {
     Several,
     // A part of one, which is searched for.
     Part(Sought),
+    // Cedar's own request, of which parts may be unknown.
+    Partly,
 }
 
 /// A service that asks one decider.
@@ -49,7 +52,7 @@ pub struct Decisions<D: Decider> {
 /// Each request is answered by what is due to it alone, and the service stays as it is.
 impl<D: Decider> Service for Decisions<D> {
     ghost answers = { λ before request response after. (after ≡ before)
-        × IsServed (offered (D.decides before.decider) (D.authorizes before.decider)
+        × IsServed (offered (D.decides before.decider) (D.authorizes before.decider) (D.leaves before.decider)
         (finder_of (D.finds before.decider) (D.version before.decider) (D.count before.decider) before.page)
         (option_map string_bytes before.metadata)) request response };
 
@@ -68,9 +71,9 @@ fn respond<D: Decider>(
     response: &mut Response,
 ) -> Result<(), AllocError>
     requires { IsBlank response.old }
-    ensures { OnOk result (IsServed (offered (D.decides service.now.decider) (D.authorizes service.now.decider)
-        (finder_of (D.finds service.now.decider) (D.version service.now.decider) (D.count service.now.decider)
-        service.now.page) (option_map string_bytes service.now.metadata)) request.now response.new) }
+    ensures { OnOk result (IsServed (offered (D.decides service.now.decider) (D.authorizes service.now.decider) (D.leaves service.now.decider)
+        (finder_of (D.finds service.now.decider) (D.version service.now.decider) (D.count service.now.decider) service.now.page)
+        (option_map string_bytes service.now.metadata)) request.now response.new) }
 {
     let route = route_of(request.method().as_str(), request.uri().path());
     let reply = reply(service, route, request.body().as_slice())?;
@@ -79,9 +82,9 @@ fn respond<D: Decider>(
 }
 
 fn reply<D: Decider>(service: &Decisions<D>, route: Route, body: &[u8]) -> Result<Reply, AllocError>
-    ensures { IfOk result (IsReply (offered (D.decides service.now.decider) (D.authorizes service.now.decider)
-        (finder_of (D.finds service.now.decider) (D.version service.now.decider) (D.count service.now.decider)
-        service.now.page) (option_map string_bytes service.now.metadata)) route body.now) }
+    ensures { IfOk result (IsReply (offered (D.decides service.now.decider) (D.authorizes service.now.decider) (D.leaves service.now.decider)
+        (finder_of (D.finds service.now.decider) (D.version service.now.decider) (D.count service.now.decider) service.now.page)
+        (option_map string_bytes service.now.metadata)) route body.now) }
 {
     let alloc = service.alloc;
     match route {
@@ -89,6 +92,7 @@ fn reply<D: Decider>(service: &Decisions<D>, route: Route, body: &[u8]) -> Resul
         Route::Evaluations => ask(service, Asks::Several, body),
         Route::Search(sought) => ask(service, Asks::Part(sought), body),
         Route::Authorize => authorize(alloc, &service.decider, body),
+        Route::PartiallyAuthorize => ask(service, Asks::Partly, body),
         Route::Health => plain(alloc, "{\"status\":\"ok\"}"),
         Route::Metadata => metadata(alloc, &service.metadata),
         Route::PostOnly => faulty(alloc, Status::PostOnly, whole("there is POST alone")),
@@ -123,9 +127,9 @@ fn metadata(alloc: Global, metadata: &Option<String>) -> Result<Reply, AllocErro
 // ---- AuthZEN's documents
 
 fn ask<D: Decider>(service: &Decisions<D>, asks: Asks, body: &[u8]) -> Result<Reply, AllocError>
-    ensures { IfOk result (IsRepliedTo (IsAskedAs asks (D.decides service.now.decider)
-        (finder_of (D.finds service.now.decider) (D.version service.now.decider) (D.count service.now.decider)
-        service.now.page)) body.now) }
+    ensures { IfOk result (IsRepliedTo (IsAskedAs asks (offered (D.decides service.now.decider) (D.authorizes service.now.decider) (D.leaves service.now.decider)
+        (finder_of (D.finds service.now.decider) (D.version service.now.decider) (D.count service.now.decider) service.now.page)
+        (option_map string_bytes service.now.metadata))) body.now) }
 {
     match str::from_utf8(body) {
         Ok(text) => ask_text(service, asks, text),
@@ -134,9 +138,9 @@ fn ask<D: Decider>(service: &Decisions<D>, asks: Asks, body: &[u8]) -> Result<Re
 }
 
 fn ask_text<D: Decider>(service: &Decisions<D>, asks: Asks, text: &str) -> Result<Reply, AllocError>
-    ensures { IfOk result (IsRepliedTo (IsAskedAs asks (D.decides service.now.decider)
-        (finder_of (D.finds service.now.decider) (D.version service.now.decider) (D.count service.now.decider)
-        service.now.page)) text.now) }
+    ensures { IfOk result (IsRepliedTo (IsAskedAs asks (offered (D.decides service.now.decider) (D.authorizes service.now.decider) (D.leaves service.now.decider)
+        (finder_of (D.finds service.now.decider) (D.version service.now.decider) (D.count service.now.decider) service.now.page)
+        (option_map string_bytes service.now.metadata))) text.now) }
 {
     let alloc = service.alloc;
     let mut scratch = Scratch::new(alloc);
@@ -167,15 +171,16 @@ fn ask_value<D: Decider>(
     asks: Asks,
     value: &Value<'_>,
 ) -> Result<Reply, AllocError>
-    ensures { IfOk result (IsAskedAs asks (D.decides service.now.decider)
-        (finder_of (D.finds service.now.decider) (D.version service.now.decider) (D.count service.now.decider)
-        service.now.page) (value_view value.now)) }
+    ensures { IfOk result (IsAskedAs asks (offered (D.decides service.now.decider) (D.authorizes service.now.decider) (D.leaves service.now.decider)
+        (finder_of (D.finds service.now.decider) (D.version service.now.decider) (D.count service.now.decider) service.now.page)
+        (option_map string_bytes service.now.metadata)) (value_view value.now)) }
 {
     let alloc = service.alloc;
     match asks {
         Asks::One => evaluate_one(alloc, &service.decider, value),
         Asks::Several => evaluate_all(alloc, &service.decider, value),
         Asks::Part(sought) => search_value(alloc, &service.decider, service.page, sought, value),
+        Asks::Partly => answer_partly(alloc, &service.decider, value),
     }
 }
 

@@ -20,7 +20,7 @@ returns g c =
     let id : option_copied c.get-id.result ≡ request_id q =
     c.get-id.ensures.value ∙ ap (λ (m : Entries FieldValue). get m (codes "x-request-id")) c.headers.ensures in
     let all : Offers =
-    offered (g.D.Decider.decides s.decider) (g.D.Decider.authorizes s.decider)
+    offered (g.D.Decider.decides s.decider) (g.D.Decider.authorizes s.decider) (g.D.Decider.leaves s.decider)
     (finder_of (g.D.Decider.finds s.decider) (g.D.Decider.version s.decider) (g.D.Decider.count s.decider) s.page)
     (option_map string_bytes s.metadata) in
     served all q
