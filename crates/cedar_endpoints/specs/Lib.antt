@@ -8,4 +8,7 @@ pub mod Several
 pub mod Tokens
 pub mod Found
 pub mod Partials
+pub mod Reloads
 pub mod Served
+pub mod Answered
+pub mod Lines

@@ -1,5 +1,5 @@
 -- What a service answers to requests over HTTP, whatever decides behind it.
-use Rattle.std.specs.Prelude.{List, ℕ, Option, Some, None, codes, string_bytes}
+use Rattle.std.specs.Prelude.{Bool, List, ℕ, Option, Some, None, codes, string_bytes}
 use Rattle.std.specs.Str.{IsUtf8}
 use Rattle.json.specs.Json.{Json}
 use Rattle.http.specs.declared.request.Request.{Request}
@@ -23,6 +23,7 @@ use Rattle.cedar_endpoints.specs.Documents.{IsRepliedTo, whole}
 use Rattle.cedar_endpoints.specs.Replies.{Replies, IsFault, error_text}
 use Rattle.cedar_endpoints.specs.Several.{Decides, IsDecided, AreEvaluated}
 use Rattle.cedar_endpoints.specs.Partials.{Leaves, IsPartlyAnswered}
+use Rattle.cedar_endpoints.specs.Reloads.{Reloads, Refuses, IsUntakenIf, IsPutAlone}
 use Rattle.cedar_endpoints.specs.Routes.{route_of}
 
 -- ---- AuthZEN's documents
@@ -50,21 +51,32 @@ abbrev pub IsMetadata : Option Text → Reply → Type 0
 IsMetadata None = IsFault statuses.NotFound (whole (codes "nothing is here"))
 IsMetadata (Some text) = Replies statuses.Ok text
 
--- what a service has to offer: its decisions of evaluations and of Cedar's own requests, what it leaves of policies, its
--- searches, and where its endpoints are
+-- what a service has to offer: its decisions of evaluations and of Cedar's own requests, what it leaves of policies,
+-- its searches, whether other policies and entities are taken in place of these, and where its endpoints are
 pub record Offers : Type 1 where
   pub decides : Decides Evaluation
   pub authorizes : Decides Text
   pub leaves : Leaves
   pub searches : Finder
+  pub reloads : Reloads
   pub metadata : Option Text
 
-abbrev pub offered : Decides Evaluation → Decides Text → Leaves → Finder → Option Text → Offers
-offered decides authorizes leaves searches metadata =
-    record { decides = decides; authorizes = authorizes; leaves = leaves; searches = searches; metadata = metadata }
+abbrev pub reloads_of : Bool → Refuses → Reloads
+reloads_of allows refuses = record { allows = allows; refuses = refuses }
 
--- what is replied to a document: one evaluation is decided, or all of a document that may ask several, or it is a page of
--- what is searched for, or what is left of policies
+abbrev pub offered : Decides Evaluation → Decides Text → Leaves → Finder → Reloads → Option Text → Offers
+offered decides authorizes leaves searches reloads metadata =
+    record {
+      decides = decides;
+      authorizes = authorizes;
+      leaves = leaves;
+      searches = searches;
+      reloads = reloads;
+      metadata = metadata;
+    }
+
+-- what is replied to a document: one evaluation is decided, or all of a document that may ask several, or it is a page
+-- of what is searched for, or what is left of policies
 abbrev pub IsAskedAs : Asks → Offers → Json → Reply → Type 0
 IsAskedAs asks.One s = IsEvaluated s.decides
 IsAskedAs asks.Several s = AreEvaluated s.decides
@@ -78,10 +90,12 @@ IsReply s routes.Evaluations body r = IsRepliedTo (AreEvaluated s.decides) body 
 IsReply s (routes.Search sought) body r = IsRepliedTo (IsSearched s.searches sought) body r
 IsReply s routes.Authorize body r = IsAuthorized s.authorizes body r
 IsReply s routes.PartiallyAuthorize body r = IsRepliedTo (IsPartlyAnswered s.leaves) body r
+IsReply s (routes.Reload part) body r = IsUntakenIf s.reloads.allows s.reloads.refuses part body r
 IsReply s routes.Health body r = Replies statuses.Ok (codes "{\"status\":\"ok\"}") r
 IsReply s routes.Metadata body r = IsMetadata s.metadata r
 IsReply s routes.PostOnly body r = IsFault statuses.PostOnly (whole (codes "there is POST alone")) r
 IsReply s routes.GetOnly body r = IsFault statuses.GetOnly (whole (codes "there are GET and HEAD alone")) r
+IsReply s routes.PutOnly body r = IsPutAlone s.reloads.allows r
 IsReply s routes.Unknown body r = IsFault statuses.NotFound (whole (codes "nothing is here")) r
 
 -- ---- over HTTP
@@ -98,4 +112,4 @@ request_id q = get (head_of q).headers (codes "x-request-id")
 pub record IsServed (s : Offers) (q : Request (List ℕ)) (p : Response) : Type 0 where
   pub reply : Reply
   pub is_due : IsReply s (asked_route q) (body_of q) reply
-  pub sent : IsSent reply.status (request_id q) (string_bytes reply.body) p
+  pub sent : IsSent reply.status s.searches.version (request_id q) (string_bytes reply.body) p

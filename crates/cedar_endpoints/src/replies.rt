@@ -42,6 +42,15 @@ pub enum Remainder {
     Refused { error: String },
 }
 
+/// Why other policies or entities are not taken.
+#[derive(Debug, Drop)]
+pub enum NotRemade {
+    /// Out of memory.
+    Memory,
+    /// For what is wrong with them: the error, as JSON.
+    Told(String),
+}
+
 /// A status, and a JSON text.
 #[derive(Debug, Drop)]
 pub struct Reply {

@@ -1,0 +1,30 @@
+-- Versions, as fields name them.
+use Rattle.std.proofs.Common.{◌≡◌, ◌∙◌, ap, sym, subst, List, ℕ, [], ◌∷◌, ◌++◌, append-nil, append_assoc, codes, Option, Result, Ok, Err, OnOk}
+use Rattle.http1.specs.Fields.{Header}
+use Rattle.http_header.specs.FieldValue.{FieldValue, plain_value, IsFieldValue}
+use Rattle.http_server.specs.declared.response.Response.{Response}
+use Rattle.http_server.specs.Response.{IsResponse}
+use Rattle.cedar_endpoints.specs.declared.answers.Status.{Status}
+use Rattle.cedar_endpoints.specs.Answers.{status_code, allowed, id_fields, fields_sent, NamesVersion, named, no_value, AddsVersion, IsSent}
+
+-- one field more
+pub adds_named : {A E : Type 0} (version : List ℕ) (v : FieldValue) (o : Result A E) (old new : List Header)
+    → v ≡ plain_value version → OnOk o (new ≡ old ++ (codes "cedar-version", v.bytes) ∷ [])
+    → OnOk o (AddsVersion version old new)
+adds_named version v (Ok a) old new is h =
+    ((codes "cedar-version", version) ∷ [], named, h ∙ ap (λ (x : FieldValue). old ++ (codes "cedar-version", x.bytes) ∷ []) is)
+adds_named version v (Err e) old new is h = h
+
+-- none
+pub adds_none : (version : List ℕ) (old : List Header) → ¬ IsFieldValue version → AddsVersion version old old
+adds_none version old no = ([], no_value no, sym (append-nil old))
+
+-- the fields that are sent, one behind another
+pub fields_in_order : (s : Status) (id : Option FieldValue) (fs one two three four : List Header)
+    → one ≡ (codes "content-type", codes "application/json") ∷ [] → two ≡ one ++ fs → three ≡ two ++ allowed s
+    → four ≡ three ++ id_fields id → four ≡ fields_sent s fs id
+fields_in_order s id fs one two three four a b c d =
+    let first : List Header = (codes "content-type", codes "application/json") ∷ [] in
+    d ∙ ap (λ (l : List Header). l ++ id_fields id) (c ∙ ap (λ (l : List Header). l ++ allowed s)
+    (b ∙ ap (λ (l : List Header). l ++ fs) a))
+    ∙ append_assoc (first ++ fs) (allowed s) (id_fields id) ∙ append_assoc first fs (allowed s ++ id_fields id)
