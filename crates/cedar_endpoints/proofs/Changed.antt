@@ -15,10 +15,6 @@ use Rattle.cedar_endpoints.specs.Answered.{IsAnswered, stays, takes, IsTakenSent
 use Rattle.cedar_endpoints.specs.Reloads.{replaced_by, IsUntaken, IsUntakenAs, IsUntakenIf}
 use Rattle.cedar_endpoints.specs.Served.{Offers, IsReply, IsServed, asked_route, request_id}
 
-on_ok : {A E : Type 0} (P Q : Type 0) → (P → Q) → (r : Result A E) → OnOk r P → OnOk r Q
-on_ok P Q f (Ok a) h = f h
-on_ok P Q f (Err e) h = h
-
 -- the route by which a text is to be taken
 is_reload : (allows : Bool) (route : Route) (part : Replaced) → replaced_by allows route ≡ Some part
     → route ≡ routes.Reload part
@@ -40,40 +36,44 @@ is_allowed : (allows : Bool) (route : Route) (part : Replaced) → replaced_by a
 is_allowed false route part h = absurd (cc)
 is_allowed true route part h = refl
 
-module _ {A E D : Type 0} (s : Offers) (remakes : Replaced → Text → D → Type 0) (version : D → Text)
-    (q : Request (List ℕ)) (p : Response) where
-  -- it stays as it is
-  pub stays_on : (before : Decisions D) (o : Result A E) → OnOk o (IsServed s q p)
-      → OnOk o (IsAnswered s remakes version q p before before)
-  stays_on before o h = on_ok _ _ (λ k. stays refl k) o h
+-- it stays as it is
+pub stays_on : {A E D : Type 0} (s : Offers) (remakes : Replaced → Text → D → Type 0) (version : D → Text)
+    (q : Request (List ℕ)) (p : Response) (before : Decisions D) (o : Result A E) → OnOk o (IsServed s q p)
+    → OnOk o (IsAnswered s remakes version q p before before)
+stays_on s remakes version q p before (Ok a) h = stays refl h
+stays_on s remakes version q p before (Err e) h = h
 
-  -- a text is taken
-  pub takes_on : (part : Replaced) (made : D) (before after : Decisions D) (o : Result A E)
-      → replaced_by s.reloads.allows (asked_route q) ≡ Some part → remakes part (body_of q) made
-      → OnOk o (after ≡ record before { decider = made }) → OnOk o (IsTakenSent (version made) q p)
-      → OnOk o (IsAnswered s remakes version q p before after)
-  takes_on part made before after (Ok a) asked is same sent = takes part made asked is same sent
-  takes_on part made before after (Err e) asked is same sent = same
+-- a text is taken
+pub takes_on : {A E D : Type 0} (s : Offers) (remakes : Replaced → Text → D → Type 0) (version : D → Text)
+    (q : Request (List ℕ)) (p : Response) (part : Replaced) (made : D) (before after : Decisions D) (o : Result A E)
+    → replaced_by s.reloads.allows (asked_route q) ≡ Some part → remakes part (body_of q) made
+    → OnOk o (after ≡ record before { decider = made }) → OnOk o (IsTakenSent (version made) q p)
+    → OnOk o (IsAnswered s remakes version q p before after)
+takes_on s remakes version q p part made before after (Ok a) asked is same sent = takes part made asked is same sent
+takes_on s remakes version q p part made before after (Err e) asked is same sent = same
 
-  untaken_served : (part : Replaced) (before : Decisions D) (u : Untaken)
-      → replaced_by s.reloads.allows (asked_route q) ≡ Some part
-      → IsUntakenAs (IsUntaken s.reloads.refuses part (body_of q)) u
-      → IsUntakenSent s.searches.version u q p → IsServed s q p
-  untaken_served part before untakens.Memory asked is sent = absurd sent
-  untaken_served part before (untakens.Replied r) asked is sent = record {
-    reply = r;
-    is_due = subst (λ (x : Route). IsReply s x (body_of q) r) (sym (is_reload s.reloads.allows (asked_route q) part asked))
-        (subst (λ (b : Bool). IsUntakenIf b s.reloads.refuses part (body_of q) r)
-        (sym (is_allowed s.reloads.allows (asked_route q) part asked)) is);
-    sent = sent;
-  }
+untaken_served : (s : Offers) (q : Request (List ℕ)) (p : Response) (part : Replaced) (u : Untaken)
+    → replaced_by s.reloads.allows (asked_route q) ≡ Some part
+    → IsUntakenAs (IsUntaken s.reloads.refuses part (body_of q)) u
+    → IsUntakenSent s.searches.version u q p → IsServed s q p
+untaken_served s q p part untakens.Memory asked is sent = absurd sent
+untaken_served s q p part (untakens.Replied r) asked is sent = record {
+  reply = r;
+  is_due = subst (λ (x : Route). IsReply s x (body_of q) r) (sym (is_reload s.reloads.allows (asked_route q) part asked))
+      (subst (λ (b : Bool). IsUntakenIf b s.reloads.refuses part (body_of q) r)
+      (sym (is_allowed s.reloads.allows (asked_route q) part asked)) is);
+  sent = sent;
+}
 
-  -- none is taken
-  pub keeps_on : (part : Replaced) (before : Decisions D) (u : Untaken) (o : Result A E)
-      → replaced_by s.reloads.allows (asked_route q) ≡ Some part
-      → IsUntakenAs (IsUntaken s.reloads.refuses part (body_of q)) u
-      → OnOk o (IsUntakenSent s.searches.version u q p)
-      → OnOk o (IsAnswered s remakes version q p before before)
-  keeps_on part before u o asked is sent = on_ok _ _ (λ k. stays refl (untaken_served part before u asked is k)) o sent
+-- none is taken
+pub keeps_on : {A E D : Type 0} (s : Offers) (remakes : Replaced → Text → D → Type 0) (version : D → Text)
+    (q : Request (List ℕ)) (p : Response) (part : Replaced) (before : Decisions D) (u : Untaken) (o : Result A E)
+    → replaced_by s.reloads.allows (asked_route q) ≡ Some part
+    → IsUntakenAs (IsUntaken s.reloads.refuses part (body_of q)) u
+    → OnOk o (IsUntakenSent s.searches.version u q p)
+    → OnOk o (IsAnswered s remakes version q p before before)
+keeps_on s remakes version q p part before u (Ok a) asked is sent =
+    stays refl (untaken_served s q p part u asked is sent)
+keeps_on s remakes version q p part before u (Err e) asked is sent = sent
 
 pub ruleset changed = (stays_on)

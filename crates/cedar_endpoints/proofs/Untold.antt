@@ -45,14 +45,13 @@ module _ (refuses : Refuses) (part : Replaced) (body : Text) (u : Untaken) where
 
 -- where no text is taken, nothing is there
 pub unreplaced_as : (allows : Bool) (refuses : Refuses) (part : Replaced) (body : Text) (o : Result Reply AllocError)
-    → replaced_by allows (routes.Reload part) ≡ None → IfOk o IsNothingHere
-    → IfOk o (IsUntakenIf allows refuses part body)
-unreplaced_as false refuses part body (Ok r) none h = h
-unreplaced_as false refuses part body (Err e) none h = tt
-unreplaced_as true refuses part body o none h = absurd (cc)
+    → allows ≡ false → IfOk o IsNothingHere → IfOk o (IsUntakenIf allows refuses part body)
+unreplaced_as false refuses part body (Ok r) off h = h
+unreplaced_as false refuses part body (Err e) off h = tt
+unreplaced_as true refuses part body o off h = absurd (cc)
 
 pub not_allowed : (allows : Bool) (part : Replaced) → replaced_by allows (routes.Reload part) ≡ None → allows ≡ false
 not_allowed false part none = refl
 not_allowed true part none = absurd (cc)
 
-pub ruleset untold = (untaken_as, no_text_as, refused_text)
+pub ruleset untold = (untaken_as, no_text_as, refused_text, unreplaced_as, not_allowed)

@@ -1,8 +1,7 @@
 #![tactic(auto, using(crate::proofs::Untold::untold))]
 //! Other policies and entities in place of these.
-ghost use Rattle.std.specs.Prelude.{◌≡◌, true, IfOk, IfErr, Option, string_bytes};
+ghost use Rattle.std.specs.Prelude.{◌≡◌, true, false, None, IfOk, IfErr, string_bytes};
 ghost use Rattle.cedar_endpoints.specs.Asked.{fault_view};
-ghost use Rattle.cedar_endpoints.specs.Documents as documents;
 ghost use Rattle.cedar_endpoints.specs.Reloads.{taken_text, replaced_by, IsUntaken, IsUntakenAs, IsPutAlone};
 ghost use Rattle.cedar_endpoints.specs.Reloads.{IsNothingHere, IsNotRemade, Reports};
 
@@ -107,6 +106,23 @@ pub(crate) fn put_alone(alloc: Global, allows: bool) -> Result<Reply, AllocError
 {
     if allows {
         faulty(alloc, Status::PutOnly, whole("there is PUT alone"))
+    } else {
+        nothing_here(alloc)
+    }
+}
+
+/// What is replied where no other texts are taken. Refuses only if out of memory.
+pub(crate) fn unreplaced(
+    alloc: Global,
+    allows: bool,
+    replaced: Replaced,
+) -> Result<Reply, AllocError>
+    requires { replaced_by allows (Route.Reload replaced) ≡ None }
+    ensures nothing { IfOk result IsNothingHere }
+    ensures off { allows ≡ false }
+{
+    if allows {
+        unreachable!()
     } else {
         nothing_here(alloc)
     }

@@ -1,6 +1,6 @@
-#![tactic(auto, using(crate::proofs::Texts::texts, crate::proofs::Changed::changed))]
+#![tactic(auto, using(crate::proofs::Texts::texts, crate::proofs::Changed::changed, crate::proofs::Untold::untold))]
 //! The service.
-ghost use Rattle.std.specs.Prelude.{◌≡◌, false, Some, None, IfOk, OnOk, OnErr, option_map, string_bytes};
+ghost use Rattle.std.specs.Prelude.{◌≡◌, Some, None, IfOk, OnOk, OnErr, option_map, string_bytes};
 ghost use Rattle.http_server.specs.Response.{IsBlank};
 ghost use Rattle.cedar_endpoints.specs.Asked.{fault_view};
 ghost use Rattle.json.specs.Value.{value_view};
@@ -8,7 +8,7 @@ ghost use Rattle.cedar_endpoints.specs.Documents.{IsRepliedTo, IsReplyUnread, wh
 ghost use Rattle.cedar_endpoints.specs.Found.{finder_of};
 ghost use Rattle.cedar_endpoints.specs.Answers.{IsSent};
 ghost use Rattle.cedar_endpoints.specs.Answered.{IsAnswered, IsTakenSent, IsUntakenSent};
-ghost use Rattle.cedar_endpoints.specs.Reloads.{replaced_by, IsNothingHere};
+ghost use Rattle.cedar_endpoints.specs.Reloads.{replaced_by};
 ghost use Rattle.cedar_endpoints.specs.Served.{reloads_of, asked_route, request_id};
 ghost use Rattle.cedar_endpoints.specs.Served.{offered, IsEvaluated, IsAskedAs, IsAuthorized, IsResponded, IsMetadata};
 ghost use Rattle.cedar_endpoints.specs.Served.{IsReply, IsServed};
@@ -20,7 +20,9 @@ use crate::documents::{Unread, parse_json};
 use crate::evaluations::{decide_said, evaluate_all};
 use crate::found::search_value;
 use crate::partials::answer_partly;
-use crate::reloads::{Untaken, nothing_here, put_alone, remake, replaced_by, taken_text};
+use crate::reloads::{
+    Untaken, nothing_here, put_alone, remake, replaced_by, taken_text, unreplaced,
+};
 use crate::replies::{Outcome, Reply, faulty, plain, refused};
 use crate::routes::{Replaced, Route, route_of};
 use crate::searches::Sought;
@@ -236,7 +238,7 @@ fn reply<D: Decider>(service: &Decisions<D>, route: Route, body: &[u8]) -> Resul
         Route::Search(sought) => ask(service, Asks::Part(sought), body),
         Route::Authorize => authorize(alloc, &service.decider, body),
         Route::PartiallyAuthorize => ask(service, Asks::Partly, body),
-        Route::Reload(_) => unreplaced(alloc, service.allows_reload),
+        Route::Reload(replaced) => unreplaced(alloc, service.allows_reload, replaced),
         Route::Health => plain(alloc, "{\"status\":\"ok\"}"),
         Route::Metadata => metadata(alloc, &service.metadata),
         Route::PostOnly => faulty(alloc, Status::PostOnly, whole("there is POST alone")),
@@ -247,18 +249,6 @@ fn reply<D: Decider>(service: &Decisions<D>, route: Route, body: &[u8]) -> Resul
         ),
         Route::PutOnly => put_alone(alloc, service.allows_reload),
         Route::Unknown => nothing_here(alloc),
-    }
-}
-
-// Where no other texts are taken.
-fn unreplaced(alloc: Global, allows: bool) -> Result<Reply, AllocError>
-    requires { allows ≡ false }
-    ensures { IfOk result IsNothingHere }
-{
-    if allows {
-        unreachable!()
-    } else {
-        nothing_here(alloc)
     }
 }
 
