@@ -539,6 +539,20 @@ def conversation():
     return rows, b"".join(it[1] for it in rows), b"".join(it[2] for it in rows)
 
 
+def lines():
+    """Cedar's own requests, a line each, good and bad ones, and the line that is due to each."""
+    rows = []
+    for principal, action, resource, context in ((ANN, "read", PLAN, {}), (BOB, "print", MENU, {"hour": 9}), (BOB, "print", MENU, {"hour": 20}),
+                                                 (ANN, "read", VAULT, {"role": "auditor"}), (EVE, "", PLAN, {"a": [1, "\n", True]})):
+        text = {"principal": said(principal), "action": {"type": "Action", "id": action}, "resource": said(resource), "context": context}
+        rows.append((compact(text).encode(), response(principal, action, resource, context)))
+        rows.append((b"{", {"error": {"path": "$", "reason": "not JSON"}}))
+        rows.append((compact(text | {"subject": 1}).encode(), {"error": {"path": "$.subject", "reason": "unexpected"}}))
+    rows += [(b"", {"error": {"path": "$", "reason": "not JSON"}}), (b"\xff", {"error": {"path": "$", "reason": "not UTF-8"}}),
+             (rows[0][0] + b"\r", rows[0][1])]
+    return b"".join(line + b"\n" for line, _ in rows), b"".join(compact(wanted).encode() + b"\n" for _, wanted in rows)
+
+
 # ---- against a program
 
 def options():
@@ -546,9 +560,9 @@ def options():
         return it.read().split("\n")[:-1]
 
 
-def answer(program, pieces):
+def answer(program, pieces, words=None):
     """What the program answers to these bytes, each piece written by itself."""
-    with subprocess.Popen([program, *options()], cwd=f"{CRATE}/data", stdin=subprocess.PIPE, stdout=subprocess.PIPE) as it:
+    with subprocess.Popen([program, *(options() if words is None else words)], cwd=f"{CRATE}/data", stdin=subprocess.PIPE, stdout=subprocess.PIPE) as it:
         reader = threading.Thread(target=lambda: out.append(it.stdout.read()))
         out = []
         reader.start()
@@ -567,8 +581,8 @@ def run(program):
     rows, sent, wanted = conversation()
     faults = []
 
-    def check(what, pieces, wanted):
-        got, status = answer(program, pieces)
+    def check(what, pieces, wanted, words=None):
+        got, status = answer(program, pieces, words)
         if (got, status) != (wanted, 0):
             at = next((n for n, (a, b) in enumerate(zip(got, wanted)) if a != b), min(len(got), len(wanted)))
             faults.append(f"{what}: status {status}, at byte {at}: {got[at - 60:at + 60]!r} instead of {wanted[at - 60:at + 60]!r}")
@@ -584,6 +598,12 @@ def run(program):
         check("the same in pieces", [sent[a:b] for a, b in zip([0, *cuts], [*cuts, len(sent)])], wanted)
     for what, last, ends in LAST:
         check(what, [request("POST", EVALUATION, GOOD) + last], due(200, GOOD_DUE) + ends)
+    sent, wanted = lines()
+    words = [*options()[:4], "--lines"]
+    check("lines", [sent], wanted, words)
+    check("no line", [b""], b"", words)
+    check("lines in pieces", [sent[at:at + 7] for at in range(0, len(sent), 7)], wanted, words)
+    check("the last without an end", [sent[:-1]], wanted, words)
     for fault in faults:
         print("FAILED:", fault)
     print(f"conversations: {len(rows)} requests in one, {len(LAST)} that end one, {len(faults)} failed")

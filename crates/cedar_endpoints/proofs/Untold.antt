@@ -12,7 +12,7 @@ use Rattle.cedar_endpoints.specs.declared.routes.Replaced.{Replaced}
 use Rattle.cedar_endpoints.specs.declared.routes.Route.TheVariants as routes
 use Rattle.cedar_endpoints.specs.Asked.{Text}
 use Rattle.cedar_endpoints.specs.Documents.{whole}
-use Rattle.cedar_endpoints.specs.Reloads.{Refuses, replaced_by, IsUntaken, no_text, refused_as, IsUntakenAs, IsUntakenIf, IsNothingHere, IsNotRemade, Reports}
+use Rattle.cedar_endpoints.specs.Reloads.{Refuses, replaced_by, IsUntaken, no_text, refused_as, IsUntakenAs, IsUntakenIf, IsNothingHere, IsPutAlone, IsNotRemade, Reports}
 use Rattle.cedar_endpoints.specs.Replies.{Replies, IsFault, error_text}
 
 -- the reply that there is, if there is one
@@ -50,8 +50,21 @@ unreplaced_as false refuses part body (Ok r) off h = h
 unreplaced_as false refuses part body (Err e) off h = tt
 unreplaced_as true refuses part body o off h = absurd (cc)
 
+-- where texts are taken, there is `PUT` alone
+pub put_on : (allows : Bool) (o : Result Reply AllocError) → allows ≡ true
+    → IfOk o (IsFault statuses.PutOnly (whole (codes "there is PUT alone"))) → IfOk o (IsPutAlone allows)
+put_on true (Ok r) on h = h
+put_on true (Err e) on h = tt
+put_on false o on h = absurd (cc)
+
+pub put_off : (allows : Bool) (o : Result Reply AllocError) → allows ≡ false → IfOk o IsNothingHere
+    → IfOk o (IsPutAlone allows)
+put_off false (Ok r) off h = h
+put_off false (Err e) off h = tt
+put_off true o off h = absurd (cc)
+
 pub not_allowed : (allows : Bool) (part : Replaced) → replaced_by allows (routes.Reload part) ≡ None → allows ≡ false
 not_allowed false part none = refl
 not_allowed true part none = absurd (cc)
 
-pub ruleset untold = (untaken_as, no_text_as, refused_text, unreplaced_as, not_allowed)
+pub ruleset untold = (untaken_as, no_text_as, refused_text, unreplaced_as, not_allowed, put_on, put_off)

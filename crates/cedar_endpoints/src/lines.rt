@@ -44,8 +44,8 @@ fn answer_line<D: Decider, R: Read + Drop, W: Write>(
 {
     flush_before(reader.buffer(), writer)?;
     let mut line: Vec<u8> = Vec::new(alloc);
-    reader.read_until(b'\n', &mut line)?;
-    if line.is_empty() {
+    let count = reader.read_until(b'\n', &mut line)?;
+    if count == 0 {
         return Ok(false);
     }
     write_answer(alloc, decider, line.as_slice(), writer)?;

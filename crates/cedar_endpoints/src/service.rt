@@ -74,12 +74,19 @@ impl<D: Decider> Service for Decisions<D> {
         request: &Request<Bytes>,
         response: &mut Response,
     ) -> Result<(), AllocError> {
-        let route = route_of(request.method().as_str(), request.uri().path());
+        let route = asked_route(request);
         match replaced_by(self.allows_reload, route) {
             Some(replaced) => reload(self, replaced, request, response),
             None => respond(self, route, request, response),
         }
     }
+}
+
+// Which endpoint the request names.
+fn asked_route(request: &Request<Bytes>) -> Route
+    ensures { result ≡ asked_route request.now }
+{
+    route_of(request.method().as_str(), request.uri().path())
 }
 
 fn respond<D: Decider>(
