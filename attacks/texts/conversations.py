@@ -469,7 +469,7 @@ RELOADS = [
     ("what bob reads of these", search("resource", BY_ANN | {"subject": BOB}),
      due(200, {"results": [said(PLAN)], "page": {"next_token": ""}}, of=THIRD)),
     left_out("policies that are none, once more", NEW_POLICIES, b"x", "$",
-             "line 1, column 1: expected `permit`, `forbid` or `@`, found `x`", of=THIRD),
+             "line 1, column 1: expected a policy, found an identifier", of=THIRD),
     takes("the first policies again", NEW_POLICIES, POLICIES_TEXT, FOURTH),
     by_then("over these ann owns nothing", ANN, False, [], FOURTH),
     takes("the first entities again", NEW_ENTITIES, ENTITIES_TEXT, VERSION),

@@ -24,7 +24,8 @@ pub fn answer_lines<D: Decider, R: Read + Drop, W: Write>(
         (W.contents writer.old) (W.contents writer.new)) }
 {
     'lines: for _ in 0..u64::MAX {
-        if !answer_line(alloc, decider, reader, writer)? {
+        let more = answer_line(alloc, decider, reader, writer)?;
+        if !more {
             writer.flush()?;
             return Ok(());
         }

@@ -146,8 +146,10 @@ fn serve_files<R: Files + Input + AllocGlobal + Print + RandomSource>(
 fn answer_host<R: Input + AllocGlobal + Print>(rt: &R, texts: Texts<'_>) -> Result<State, Stopped> {
     let mut reader = BufReader::new(rt.alloc(), rt.reader())?;
     let mut writer = BufWriter::new(rt.alloc(), io::writer(rt))?;
-    answer_texts(rt.alloc(), texts, &mut reader, &mut writer)?;
-    Ok(State::EndOfInput)
+    match answer_texts(rt.alloc(), texts, &mut reader, &mut writer) {
+        Ok(()) => Ok(State::EndOfInput),
+        Err(stopped) => Err(stopped),
+    }
 }
 
 // How long a body may be; all else is as `http_server` has it.
