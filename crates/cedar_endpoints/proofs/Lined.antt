@@ -1,11 +1,11 @@
 -- Lines, and the answers to them.
-use Rattle.std.proofs.Common.{◌≡◌, ◌∙◌, ap, arith, Bool, true, false, ℕ, ◌+◌, ◌<◌, List, [], ◌∷◌, ◌++◌, length, Option, None, Some, IfSome}
+use Rattle.std.proofs.Common.{◌≡◌, ◌∙◌, ap, arith, Bool, true, false, ℕ, ◌+◌, ◌<◌, List, [], ◌∷◌, ◌++◌, length, Option, None, Some, IfSome, subst, Result, Ok, Err, OnOk}
 use Rattle.std.specs.Prelude.{◌≢◌}
 use Rattle.std.specs.Io.{StopsAt, appended_bytes}
 use Rattle.std.specs.Io.BufRead.{take_through}
 use Rattle.std.specs.Io.KnownBytes.{Appends, Consumes, Keeps}
 use Rattle.cedar_endpoints.specs.Asked.{Text}
-use Rattle.cedar_endpoints.specs.Lines.{Known, TakesLine, AreLinesAnswered, one_more, AreAllAnswered, IsLineStep, WritesAnswer}
+use Rattle.cedar_endpoints.specs.Lines.{Known, TakesLine, AreLinesAnswered, one_more, AreAllAnswered, IsLineStep, IsLineAnswer, WritesAnswer}
 use Rattle.cedar_endpoints.specs.Several.{Decides}
 
 -- what stays as it was grows by as much
@@ -62,3 +62,11 @@ at_the_end authorizes r0 w0 r w s v last false is (end, same) kept (lines, answe
   is_end = end;
   kept = kept_kept w v last same kept;
 }
+
+-- the answer is written, if it is these bytes
+pub writes_answer : {A E : Type 0} (authorizes : Decides Text) (line answer bytes : Text) (w v : Known) (o : Result A E)
+    → bytes ≡ answer → IsLineAnswer authorizes line answer → OnOk o (Appends w v bytes)
+    → OnOk o (WritesAnswer authorizes line w v)
+writes_answer authorizes line answer bytes w v (Ok a) same is appends =
+    (answer, is, subst (λ (b : Text). Appends w v b) same appends)
+writes_answer authorizes line answer bytes w v (Err e) same is appends = appends

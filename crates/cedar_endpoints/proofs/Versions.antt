@@ -2,6 +2,8 @@
 use Rattle.std.proofs.Common.{◌≡◌, ◌∙◌, ap, sym, subst, List, ℕ, [], ◌∷◌, ◌++◌, append-nil, append_assoc, codes, Option, Result, Ok, Err, OnOk}
 use Rattle.http1.specs.Fields.{Header}
 use Rattle.http_header.specs.FieldValue.{FieldValue, plain_value, IsFieldValue}
+use Rattle.http_header.specs.declared.value.HeaderValueError.{HeaderValueError}
+use Rattle.http_header.specs.declared.value.HeaderValueError.TheVariants as errors
 use Rattle.http_server.specs.declared.response.Response.{Response}
 use Rattle.http_server.specs.Response.{IsResponse}
 use Rattle.cedar_endpoints.specs.declared.answers.Status.{Status}
@@ -17,7 +19,14 @@ adds_named version v (Err e) old new is h = h
 
 -- none
 pub adds_none : (version : List ℕ) (old : List Header) → ¬ IsFieldValue version → AddsVersion version old old
-adds_none version old no = ([], no_value no, sym (append-nil old))
+adds_none version old bad = ([], no_value bad, sym (append-nil old))
+
+-- the same, if that is why there is none
+pub adds_none_for : {A E V : Type 0} (version : List ℕ) (old : List Header) (error : HeaderValueError) (o : Result A E)
+    → (Err {A = V} error ≡ Err errors.Invalid → ¬ IsFieldValue version) → OnOk o (error ≡ errors.Invalid)
+    → OnOk o (AddsVersion version old old)
+adds_none_for version old error (Ok a) bad is = adds_none version old (bad (ap (λ (e : HeaderValueError). Err e) is))
+adds_none_for version old error (Err e) bad is = is
 
 -- the fields that are sent, one behind another
 pub fields_in_order : (s : Status) (id : Option FieldValue) (fs one two three four : List Header)

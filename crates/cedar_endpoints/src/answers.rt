@@ -68,8 +68,17 @@ fn add_version(alloc: Global, version: &str, response: &mut Response) -> Result<
 {
     match HeaderValue::from_str(alloc, version) {
         Ok(value) => put_version(value, response),
-        Err(HeaderValueError::Invalid) => Ok(()),
-        Err(HeaderValueError::OutOfMemory) => Err(AllocError),
+        Err(error) => unnamed(error),
+    }
+}
+
+// That a field can't hold it is no error.
+fn unnamed(error: HeaderValueError) -> Result<(), AllocError>
+    ensures { OnOk result (error ≡ HeaderValueError.Invalid) }
+{
+    match error {
+        HeaderValueError::Invalid => Ok(()),
+        HeaderValueError::OutOfMemory => Err(AllocError),
     }
 }
 

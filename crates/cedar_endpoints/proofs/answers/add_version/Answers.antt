@@ -1,6 +1,5 @@
-use Rattle.std.proofs.Common.{refl}
 use Rattle.http_server.specs.Response.{fields_of}
-use Rattle.cedar_endpoints.proofs.Versions.{adds_named, adds_none}
+use Rattle.cedar_endpoints.proofs.Versions.{adds_named, adds_none_for}
 use Rattle.cedar_endpoints.proofs.answers.add_version.Goals as goal
 
 pub returns-in-Ok-clause-fields : goal.returns-in-Ok-clause-fields
@@ -8,7 +7,7 @@ returns-in-Ok-clause-fields c =
     adds_named c.args.version.now c.in-Ok.value c.put_version.result (fields_of c.args.response.now)
     (fields_of c.put_version.new.response) c.in-Ok.ensures.ok c.put_version.ensures.fields
 
-pub returns-in-Err-Invalid-clause-fields : goal.returns-in-Err-Invalid-clause-fields
-returns-in-Err-Invalid-clause-fields c =
-    adds_none c.args.version.now (fields_of c.args.response.now)
-    (c.in-Err-Invalid.ensures.invalid.0 refl)
+pub returns-in-Err-clause-fields : goal.returns-in-Err-clause-fields
+returns-in-Err-clause-fields c =
+    adds_none_for c.args.version.now (fields_of c.args.response.now) c.in-Err.error c.unnamed.result
+    c.in-Err.ensures.invalid.0 c.unnamed.ensures
