@@ -22,11 +22,13 @@ pub adds_none : (version : List ℕ) (old : List Header) → ¬ IsFieldValue ver
 adds_none version old bad = ([], no_value bad, sym (append-nil old))
 
 -- the same, if that is why there is none
-pub adds_none_for : {A E V : Type 0} (version : List ℕ) (old : List Header) (error : HeaderValueError) (o : Result A E)
-    → (Err {A = V} error ≡ Err errors.Invalid → ¬ IsFieldValue version) → OnOk o (error ≡ errors.Invalid)
+pub adds_none_for : {A E V : Type 0} (version : List ℕ) (old : List Header) (error : HeaderValueError)
+    (made : Result V HeaderValueError) (o : Result A E) → made ≡ Err error
+    → (made ≡ Err errors.Invalid → ¬ IsFieldValue version) → OnOk o (error ≡ errors.Invalid)
     → OnOk o (AddsVersion version old old)
-adds_none_for version old error (Ok a) bad is = adds_none version old (bad (ap (λ (e : HeaderValueError). Err e) is))
-adds_none_for version old error (Err e) bad is = is
+adds_none_for version old error made (Ok a) same bad is =
+    adds_none version old (bad (same ∙ ap (λ (e : HeaderValueError). Err e) is))
+adds_none_for version old error made (Err e) same bad is = is
 
 -- the fields that are sent, one behind another
 pub fields_in_order : (s : Status) (id : Option FieldValue) (fs one two three four : List Header)
