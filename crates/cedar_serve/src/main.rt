@@ -133,8 +133,7 @@ fn serve_files<R: Files + Input + AllocGlobal + Print + RandomSource>(
         serve_host(rt, config(options.max_body), texts)
     };
     match ended {
-        Ok(State::Aborted) => Err(Refusal::Memory),
-        Ok(_) => Ok(()),
+        Ok(()) => Ok(()),
         Err(Stopped::NotStarted(reason)) => {
             Err(refuse_texts(rt.alloc(), &options, &texts, &reason))
         }
@@ -143,13 +142,10 @@ fn serve_files<R: Files + Input + AllocGlobal + Print + RandomSource>(
 }
 
 // Answers lines of standard input, through buffers.
-fn answer_host<R: Input + AllocGlobal + Print>(rt: &R, texts: Texts<'_>) -> Result<State, Stopped> {
+fn answer_host<R: Input + AllocGlobal + Print>(rt: &R, texts: Texts<'_>) -> Result<(), Stopped> {
     let mut reader = BufReader::new(rt.alloc(), rt.reader())?;
     let mut writer = BufWriter::new(rt.alloc(), io::writer(rt))?;
-    match answer_texts(rt.alloc(), texts, &mut reader, &mut writer) {
-        Ok(()) => Ok(State::EndOfInput),
-        Err(stopped) => Err(stopped),
-    }
+    answer_texts(rt.alloc(), texts, &mut reader, &mut writer)
 }
 
 // How long a body may be; all else is as `http_server` has it.
@@ -166,17 +162,21 @@ fn serve_host<R: Input + AllocGlobal + Print + RandomSource>(
     rt: &R,
     config: Config,
     texts: Texts<'_>,
-) -> Result<State, Stopped> {
+) -> Result<(), Stopped> {
     let keys = RandomState::new(rt)?;
     let mut writer = BufWriter::new(rt.alloc(), io::writer(rt))?;
-    serve_texts(
+    let ended = serve_texts(
         rt.alloc(),
         keys,
         config,
         texts,
         &mut rt.reader(),
         &mut writer,
-    )
+    )?;
+    match ended {
+        State::Aborted => Err(Stopped::Broken(io::ErrorKind::OutOfMemory.into())),
+        State::Open | State::Closing(_) | State::Upgraded => Ok(()),
+    }
 }
 
 #[cold]

@@ -1,6 +1,8 @@
 //! One connection, from the texts of policies and entities on.
-ghost use Rattle.std.specs.Prelude.{◌≡◌, IfOk, IfErr, option_map, string_bytes};
+ghost use Rattle.std.specs.Prelude.{◌≡◌, IfOk, IfErr, OnOk, option_map, string_bytes};
 ghost use Rattle.std.specs.Io.KnownBytes.{Appends, Consumes};
+ghost use Rattle.http_server.specs.Connection.{config_of, history};
+ghost use Rattle.http_server.specs.History.{IsDone, new_history};
 ghost use Rattle.cedar_service.specs.Loaded.{both_texts, IsLoadedOf};
 ghost use Rattle.cedar_service.specs.Started.{IsNotStarted};
 ghost use Rattle.cedar_serve.specs.Connections.{IsServedBy, IsServedFrom, IfServed, IfUnstarted};
@@ -135,7 +137,7 @@ fn serve_with<R: Read, W: Write>(
 {
     let mut connection = Connection::new(alloc, keys, config);
     let mut service = service;
-    let ended = serve_decisions(&mut service, &mut connection, reader, writer);
+    let ended = serve_fresh(&mut service, &mut connection, reader, writer);
     let state = connection.state();
     drop(connection);
     drop(service);
@@ -143,4 +145,20 @@ fn serve_with<R: Read, W: Write>(
         Ok(()) => Ok(state),
         Err(error) => Err(Stopped::Broken(error)),
     }
+}
+
+// The same over a connection on which nothing came yet.
+fn serve_fresh<R: Read, W: Write>(
+    service: &mut Decisions<Loaded>,
+    connection: &mut Connection,
+    reader: &mut R,
+    writer: &mut W,
+) -> io::Result<()>
+    requires { history connection.now ≡ new_history }
+    ensures served { IsServedBy service.old (config_of connection.old) (history connection.new) }
+    ensures done { OnOk result (IsDone (history connection.new)) }
+    ensures read { Consumes (R.remaining reader.old) (R.remaining reader.new) (history connection.new).received }
+    ensures written { Appends (W.contents writer.old) (W.contents writer.new) (history connection.new).sent }
+{
+    serve_decisions(service, connection, reader, writer)
 }
