@@ -16,7 +16,7 @@
 //! `IsAuthorized` in `specs/Decided`, over `IsResponseTo`), of the very request that is asked (`IsAsked`, `IsSaid` in
 //! `specs/Asked`). What it finds is the page of those candidates with which the request is allowed (`IsFound` in
 //! `specs/Searched`, over `cedar_search`). All else is a refusal with the path of what is wrong, and no decision. Over a
-//! connection each request is answered by what is due to it alone (`AreDue` in `specs/Serving`), and what is sent is
+//! connection each request is answered by what is due to it alone (`AreAnswered` in `specs/Serving`), and what is sent is
 //! these answers.
 #![tactic(auto)]
 
