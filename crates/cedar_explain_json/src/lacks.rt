@@ -41,17 +41,18 @@ fn add_lack(
     Ok(())
 }
 
-fn lack_to_json(
-    alloc: Global,
-    places: &Places<'_>,
-    lack: Lack<'_>,
-) -> Result<JsonValue, AllocError>
+fn lack_to_json(alloc: Global, places: &Places<'_>, lack: Lack<'_>) -> Result<JsonValue, AllocError>
     ensures { IfOk result (λ j. json_view j ≡ lack_json (text_in places.now) lack.entry) }
 {
     let mut members: Vec<(RcStr, JsonValue)> = Vec::new(alloc);
     put_id(alloc, lack.policy().id(), &mut members)?;
     put_place(alloc, places, lack.part().place().copied(), &mut members)?;
     put_expression(alloc, lack.part().expression(), &mut members)?;
-    put_member(alloc, "appliesIf", JsonValue::Bool(lack.truth()), &mut members)?;
+    put_member(
+        alloc,
+        "appliesIf",
+        JsonValue::Bool(lack.truth()),
+        &mut members,
+    )?;
     Ok(JsonValue::Object(members))
 }

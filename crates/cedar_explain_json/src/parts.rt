@@ -38,7 +38,9 @@ pub(crate) fn parts_to_json(
 {
     let mut items: Vec<JsonValue> = Vec::new(alloc);
     'parts: for part in parts {
-        add_part(alloc, places, evaluator, slots, part, has_values, &mut items)?;
+        add_part(
+            alloc, places, evaluator, slots, part, has_values, &mut items,
+        )?;
     }
     Ok(JsonValue::Array(items))
 }
@@ -75,7 +77,14 @@ fn part_to_json(
     put_place(alloc, places, part.place().copied(), &mut members)?;
     put_expression(alloc, part.expression(), &mut members)?;
     put_part_outcome(alloc, part, has_values, &mut members)?;
-    put_operands(alloc, evaluator, slots, part.expression(), has_values, &mut members)?;
+    put_operands(
+        alloc,
+        evaluator,
+        slots,
+        part.expression(),
+        has_values,
+        &mut members,
+    )?;
     Ok(JsonValue::Object(members))
 }
 

@@ -79,7 +79,14 @@ fn document_of(
         (mode_view telling.error_handling) telling.has_values (json_view j)) }
 {
     let lacks = lacking(alloc, evaluator, explained, telling.error_handling)?;
-    let document = whole_document(alloc, text, evaluator, &lacks, explained, telling.has_values);
+    let document = whole_document(
+        alloc,
+        text,
+        evaluator,
+        &lacks,
+        explained,
+        telling.has_values,
+    );
     drop(lacks);
     document
 }

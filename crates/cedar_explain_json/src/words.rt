@@ -9,7 +9,7 @@ ghost use Rattle.cedar_errors.specs.Answers.{value_answer};
 ghost use Rattle.cedar_errors.specs.Failures.{failure_of};
 ghost use Rattle.cedar_text_printer.specs.Texts.{written};
 ghost use Rattle.cedar_json_writer.specs.Trees.{members_seen};
-ghost use Rattle.cedar_explain.specs.Views.{kind_view, part_told, policy_came};
+ghost use Rattle.cedar_explain.specs.Views.{kind_view, part_came, part_told, policy_came};
 ghost use Rattle.cedar_explain_json.specs.Words as specs;
 
 use crate::members::put_text;
@@ -83,10 +83,24 @@ pub(crate) fn put_part_outcome(
     ensures { OnOk result (members_seen members.new.items
         ≡ members_seen members.old.items ++ specs.part_outcome has_values (part_told part.now).answer) }
 {
-    match part.outcome() {
+    put_came(alloc, part.outcome(), part.answer(), has_values, members)
+}
+
+// The same of a part for which this was answered.
+fn put_came(
+    alloc: Global,
+    outcome: PartOutcome,
+    answer: &Result<Value, EvaluationError>,
+    has_values: bool,
+    members: &mut Vec<(RcStr, JsonValue)>,
+) -> Result<(), AllocError>
+    ensures { OnOk result (members_seen members.new.items ≡ members_seen members.old.items
+        ++ specs.came_outcome (part_came outcome) (specs.other_outcome has_values (value_answer answer.now))) }
+{
+    match outcome {
         PartOutcome::True => put_text(alloc, "outcome", "true", members),
         PartOutcome::False => put_text(alloc, "outcome", "false", members),
-        PartOutcome::OtherValue => put_other(alloc, part.answer(), has_values, members),
+        PartOutcome::OtherValue => put_other(alloc, answer, has_values, members),
         PartOutcome::Error(kind) => put_error(alloc, kind, members),
     }
 }
