@@ -51,8 +51,8 @@ impl<'f, 's> Staged<'f, 's> {
         entities: &'s Entities,
     ) -> Result<Staged<'f, 's>, AllocError>
         ensures begun { IfOk result (IsBegunWith authorizer.now request policies.now entities.now) }
-        ensures run { IfOk result (λ s. IsRun (configuration authorizer.now) (asked authorizer.now request entities.now)
-            (considered policies.now) (response_of s)) }
+        ensures run { IfOk result (λ s. IsRun (configuration authorizer.now)
+            (asked authorizer.now request entities.now) (considered policies.now) (response_of s)) }
     {
         let response = authorizer.is_authorized_core(alloc, request, policies, entities)?;
         Staged::of_first(alloc, authorizer, policies, entities, response)
