@@ -1,4 +1,4 @@
-use Rattle.std.proofs.Common.{◌||◌, List, ap, ◌∙◌, map}
+use Rattle.std.proofs.Common.{List, ap, ◌∙◌, map}
 use Rattle.cedar_model.specs.Settings.{is_among}
 use Rattle.cedar_names.specs.Names.{uid_name}
 use Rattle.cedar_layers.specs.Policies.{PolicyView, policy_view}
