@@ -53,7 +53,8 @@ fn add_each(actions: &mut BTreeSet<EntityUID>, uids: &[&EntityUID]) -> Result<()
     Ok(())
 }
 
-fn add(actions: &mut BTreeSet<EntityUID>, uid: &EntityUID) -> Result<(), AllocError>
+/// Puts the uid into the set. Refuses only if out of memory.
+pub(crate) fn add(actions: &mut BTreeSet<EntityUID>, uid: &EntityUID) -> Result<(), AllocError>
     ensures { OnOk result ((n : EntityName) → is_among n (map uid_name actions.new.keys) ≡
         (is_among n (map uid_name actions.old.keys) || entity_eq n (uid_name uid.now))) }
 {
