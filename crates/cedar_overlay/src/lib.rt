@@ -11,8 +11,15 @@
 #![tactic(auto)]
 
 mod attributes;
+mod base;
+mod checks;
 mod copies;
+mod entities;
+mod entities_error;
 mod error;
+mod uids;
 
 pub use attributes::with_attributes;
+pub use base::Base;
+pub use entities_error::EntitiesError;
 pub use error::AttributesError;
