@@ -1,12 +1,12 @@
 -- Entities that may be added, as they are checked one after another.
-use Rattle.std.proofs.Common.{◌≡◌, arith, refl, sym, ap, ◌∙◌, subst, Bool, true, false, ◌||◌, ◌⊎◌, ⊎_elim, ◌≤◌, ℕ, List, [], ◌∷◌, ◌++◌, map, Option, None, Some}
+use Rattle.std.proofs.Common.{◌≡◌, arith, refl, sym, ap, ◌∙◌, subst, Bool, true, false, ◌||◌, ⊎_elim, ◌≤◌, List, [], ◌∷◌, ◌++◌, map, Option, None, Some}
 use Rattle.std.proofs.Math.Bool.{or-false}
-use Rattle.std.specs.List.{All, list_any}
+use Rattle.std.specs.List.{All}
 use Rattle.std.specs.Option.{is_some}
 use Rattle.cedar_model.specs.Terms.{EntityName}
 use Rattle.cedar_model.specs.Outcomes.{entity_eq}
 use Rattle.cedar_model.specs.Settings.{is_among}
-use Rattle.cedar_model.proofs.Injections.{none_is_not_some, false_is_not_true}
+use Rattle.cedar_model.proofs.Injections.{false_is_not_true}
 use Rattle.cedar_names.specs.declared.names.EntityUID.{EntityUID}
 use Rattle.cedar_names.specs.Names.{uid_name}
 use Rattle.cedar_names.proofs.Among.{is_among-none, is_among-self, is_among-append, is_among-behind, is_among-cons, is_among-either, is_among-one}
@@ -18,7 +18,7 @@ use Rattle.cedar_hierarchy.specs.Sorting.{NameTest, named_of, with_name}
 use Rattle.cedar_overlay.specs.declared.entities_error.EntitiesError.{EntitiesError}
 use Rattle.cedar_overlay.specs.declared.entities_error.EntitiesError.TheVariants.{Memory, AlreadyStored, Repeated, NoParent, IsAnAncestor, Cycle}
 use Rattle.cedar_overlay.specs.Added.{times, is_there, AreAddable, IsRefusedOf}
-use Rattle.cedar_overlay.specs.Adding.{IsNew, IsNotNew, AreNew, IsApart, IsRecorded, HasItsPlace, HasNoPlace, OneHasNoPlace}
+use Rattle.cedar_overlay.specs.Adding.{IsNew, IsNotNew, AreNew, IsRecorded, HasItsPlace, HasNoPlace, OneHasNoPlace}
 use Rattle.cedar_overlay.proofs.Standing.{names-append, times-more, is_last, is_twice, one_is_brought, last_is_brought, holds_of_last}
 
 -- ---- new names

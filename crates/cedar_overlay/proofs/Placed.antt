@@ -1,15 +1,14 @@
 -- The store of placed entities over what is stored.
-use Rattle.std.proofs.Common.{◌≡◌, ◌≢◌, refl, sym, ap, ◌∙◌, subst, Bool, true, false, ◌↔◌, List, [], ◌∷◌, map, Option, None, Some, if◌then◌else◌}
+use Rattle.std.proofs.Common.{◌≡◌, refl, sym, ap, ◌∙◌, subst, Bool, true, false, ◌↔◌, List, [], ◌∷◌, Option, None, Some, if◌then◌else◌}
 use Rattle.std.specs.List.{AllZip}
 use Rattle.std.specs.Option.{is_some}
 use Rattle.cedar_model.specs.Terms.{EntityName}
 use Rattle.cedar_model.specs.Outcomes.{entity_eq}
 use Rattle.cedar_model.specs.Settings.{is_among}
-use Rattle.cedar_model.proofs.Injections.{none_is_not_some, false_is_not_true}
+use Rattle.cedar_model.proofs.Injections.{false_is_not_true}
 use Rattle.cedar_names.specs.Names.{uid_name}
-use Rattle.cedar_names.proofs.Among.{is_among-none}
 use Rattle.cedar_layers.specs.declared.policies.entities.Entity.{Entity}
-use Rattle.cedar_layers.specs.Stores.{Standing, none_stands, standing_with, standing_with_each, last_of_each_name, entity_name, entity_ancestors}
+use Rattle.cedar_layers.specs.Stores.{Standing, none_stands, standing_with, standing_with_each, last_of_each_name, entity_name}
 use Rattle.cedar_layers.proofs.Stores.{last_is_named}
 use Rattle.cedar_hierarchy.specs.Paths.{Parentage, Leads, in_one_step, by_a_parent}
 use Rattle.cedar_hierarchy.specs.Ancestry.{recorded, parents_of}

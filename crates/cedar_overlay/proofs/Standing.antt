@@ -1,6 +1,6 @@
 -- Which of some entities stands under a name.
-use Rattle.std.proofs.Common.{◌≡◌, zero-add, add_assoc, append_assoc, length, get_or, take, drop, take-append-drop, refl, sym, ap, ◌∙◌, subst, Bool, true, false, ◌⊎◌, ⊎_elim, ◌≤◌, ◌+◌, ◌<◌, ℕ, arith, cond, List, [], ◌∷◌, ◌++◌, map, Option, None, Some, if◌then◌else◌}
-use Rattle.std.proofs.lemmas.Bool.{or_parts, or_from}
+use Rattle.std.proofs.Common.{◌≡◌, zero-add, add_assoc, append_assoc, length, get_or, take, drop, take-append-drop, refl, sym, ap, ◌∙◌, subst, Bool, true, false, ⊎_elim, ◌≤◌, ◌+◌, ◌<◌, ℕ, arith, cond, List, [], ◌∷◌, ◌++◌, map, Option, Some, if◌then◌else◌}
+use Rattle.std.proofs.lemmas.Bool.{or_parts}
 use Rattle.std.proofs.lemmas.List.{map-append, take_more}
 use Rattle.std.proofs.lemmas.List.Elements.{All-head, All-tail, All-push}
 use Rattle.std.specs.List.{All}

@@ -1,5 +1,5 @@
 -- Closed entities with what the stored ones of their ancestors record.
-use Rattle.std.proofs.Common.{◌≡◌, append_assoc, append-nil, refl, sym, ap, ◌∙◌, subst, Bool, true, false, ◌||◌, ◌⊎◌, inl, inr, ⊎_elim, ◌↔◌, List, [], ◌∷◌, ◌++◌, map}
+use Rattle.std.proofs.Common.{◌≡◌, append_assoc, append-nil, sym, ap, ◌∙◌, subst, true, ◌||◌, ◌⊎◌, inl, inr, ⊎_elim, ◌↔◌, List, [], ◌∷◌, ◌++◌, map}
 use Rattle.std.proofs.Math.Bool.{or-false, or_assoc}
 use Rattle.std.proofs.lemmas.Bool.{or_left, or_right, or_cases}
 use Rattle.std.specs.List.{AllZip}
@@ -11,7 +11,7 @@ use Rattle.cedar_names.specs.Names.{uid_name}
 use Rattle.cedar_names.proofs.Among.{is_among-none, is_among-self, is_among-behind, is_among-cons}
 use Rattle.cedar_layers.specs.declared.policies.entities.Entity.{Entity}
 use Rattle.cedar_layers.specs.Stores.{Standing, entity_name, entity_ancestors}
-use Rattle.cedar_hierarchy.specs.Paths.{Parentage, Leads, AreLedTo}
+use Rattle.cedar_hierarchy.specs.Paths.{Parentage, AreLedTo}
 use Rattle.cedar_hierarchy.specs.Ancestry.{recorded, KeepsParts, IsClosed}
 use Rattle.cedar_hierarchy.specs.Sorting.{NameTest, named_in, with_name}
 use Rattle.cedar_overlay.specs.Added.{HasAncestor, by_parents, by_a_stored_one}

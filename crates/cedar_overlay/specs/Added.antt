@@ -22,12 +22,14 @@ IsAddedTo stored (Some e) made = AreAlike (Some e) made
 -- an ancestor of an entity that is brought: parents lead to it, or to a stored entity that records it
 pub data HasAncestor (parents : Parentage) (stored : Standing) (n m : EntityName) : Type 0 where
   by_parents : Leads parents n m → HasAncestor parents stored n m
-  by_a_stored_one : (k : EntityName) → Leads parents n k → is_among m (recorded (stored k)) ≡ true → HasAncestor parents stored n m
+  by_a_stored_one : (k : EntityName) → Leads parents n k → is_among m (recorded (stored k)) ≡ true
+      → HasAncestor parents stored n m
 
 -- each ancestor of a recorded ancestor is recorded
 abbrev pub RecordsAll : Standing → Type 0
 RecordsAll stored =
-    (n k m : EntityName) → is_among k (recorded (stored n)) ≡ true → is_among m (recorded (stored k)) ≡ true → is_among m (recorded (stored n)) ≡ true
+    (n k m : EntityName) → is_among k (recorded (stored n)) ≡ true → is_among m (recorded (stored k)) ≡ true
+    → is_among m (recorded (stored n)) ≡ true
 
 -- how often the name stands among these
 abbrev pub times : EntityName → List EntityName → ℕ

@@ -1,6 +1,5 @@
 -- What helpers answer while entities are added to a store.
-use Rattle.std.specs.Prelude.{◌≡◌, ◌≢◌, ◌≤◌, ◌↔◌, ⊤, Bool, true, false, List, [], ◌∷◌, ◌++◌, map, Option, None, Some}
-use Rattle.std.specs.List.{All}
+use Rattle.std.specs.Prelude.{◌≡◌, ◌≢◌, ◌≤◌, ◌↔◌, ⊤, true, false, List, [], ◌∷◌, ◌++◌, map, Option, None, Some}
 use Rattle.std.specs.Option.{is_some}
 use Rattle.cedar_model.specs.Terms.{EntityName}
 use Rattle.cedar_model.specs.Settings.{is_among}
@@ -9,7 +8,7 @@ use Rattle.cedar_names.specs.Names.{uid_name}
 use Rattle.cedar_layers.specs.declared.policies.entities.Entity.{Entity}
 use Rattle.cedar_layers.specs.Stores.{Standing, entity_name, entity_ancestors}
 use Rattle.cedar_hierarchy.specs.Paths.{Parentage, Leads}
-use Rattle.cedar_hierarchy.specs.Ancestry.{recorded, parents_of, KeepsParts}
+use Rattle.cedar_hierarchy.specs.Ancestry.{recorded, KeepsParts}
 use Rattle.cedar_hierarchy.specs.Sorting.{NameTest, named_in, named_of, with_name}
 use Rattle.cedar_overlay.specs.declared.entities_error.EntitiesError.{EntitiesError}
 use Rattle.cedar_overlay.specs.declared.entities_error.EntitiesError.TheVariants.{Memory, AlreadyStored, Repeated, NoParent, IsAnAncestor, Cycle}
@@ -40,7 +39,8 @@ pub record AreNew (stored : Standing) (es : List Entity) : Type 0 where
 -- where it has parents, no stored entity records it, if it is not stored
 abbrev pub IsApart : Standing → Entity → Type 0
 IsApart stored e =
-    (k : EntityName) → stored (entity_name e) ≡ None → entity_ancestors e ≢ [] → is_among (entity_name e) (recorded (stored k)) ≡ false
+    (k : EntityName) → stored (entity_name e) ≡ None → entity_ancestors e ≢ []
+    → is_among (entity_name e) (recorded (stored k)) ≡ false
 
 abbrev pub IsRecorded : Standing → Entity → EntitiesError → Type 0
 IsRecorded stored e (Memory x) = ⊤
@@ -48,12 +48,14 @@ IsRecorded stored e (AlreadyStored u) = ⊥
 IsRecorded stored e (Repeated u) = ⊥
 IsRecorded stored e (NoParent u v) = ⊥
 IsRecorded stored e (IsAnAncestor u v) =
-    (uid_name u ≡ entity_name e) × (entity_ancestors e ≢ []) × (is_among (entity_name e) (recorded (stored (uid_name v))) ≡ true)
+    (uid_name u ≡ entity_name e) × (entity_ancestors e ≢ [])
+    × (is_among (entity_name e) (recorded (stored (uid_name v))) ≡ true)
 IsRecorded stored e (Cycle u) = ⊥
 
 -- each parent is there, and no stored entity records it where it has parents
 pub record HasItsPlace (stored : Standing) (brought : NameTest) (e : Entity) : Type 0 where
-  pub parents : (m : EntityName) → is_among m (map uid_name (entity_ancestors e)) ≡ true → is_there stored brought m ≡ true
+  pub parents : (m : EntityName) → is_among m (map uid_name (entity_ancestors e)) ≡ true
+      → is_there stored brought m ≡ true
   pub apart : IsApart stored e
 
 abbrev pub HasNoPlace : Standing → NameTest → Entity → EntitiesError → Type 0
@@ -64,7 +66,8 @@ HasNoPlace stored brought e (NoParent u v) =
     (uid_name u ≡ entity_name e) × (is_among (uid_name v) (map uid_name (entity_ancestors e)) ≡ true)
     × (is_there stored brought (uid_name v) ≡ false)
 HasNoPlace stored brought e (IsAnAncestor u v) =
-    (uid_name u ≡ entity_name e) × (entity_ancestors e ≢ []) × (is_among (entity_name e) (recorded (stored (uid_name v))) ≡ true)
+    (uid_name u ≡ entity_name e) × (entity_ancestors e ≢ [])
+    × (is_among (entity_name e) (recorded (stored (uid_name v))) ≡ true)
 HasNoPlace stored brought e (Cycle u) = ⊥
 
 -- one of these has none
@@ -78,7 +81,8 @@ pub record OneHasNoPlace (stored : Standing) (brought : NameTest) (es : List Ent
 -- the first of these names that isn't there, if there is one
 abbrev pub IsNotThere : Standing → NameTest → List EntityName → Option EntityUID → Type 0
 IsNotThere stored brought ns None = (m : EntityName) → is_among m ns ≡ true → is_there stored brought m ≡ true
-IsNotThere stored brought ns (Some u) = (is_among (uid_name u) ns ≡ true) × (is_there stored brought (uid_name u) ≡ false)
+IsNotThere stored brought ns (Some u) =
+    (is_among (uid_name u) ns ≡ true) × (is_there stored brought (uid_name u) ≡ false)
 
 -- an error that names a cycle
 abbrev pub SaysCycle : Parentage → EntitiesError → Type 0
@@ -109,12 +113,14 @@ with_recorded before stored (n ∷ ns) = with_recorded (with_names before (recor
 -- the second is the first, with what the stored ones of its ancestors record
 pub record IsWidened (stored : Standing) (e f : Entity) : Type 0 where
   pub parts : KeepsParts e f
-  pub ancestors : named_in (entity_ancestors f) ≡ with_recorded (named_in (entity_ancestors e)) stored (map uid_name (entity_ancestors e))
+  pub ancestors : named_in (entity_ancestors f)
+      ≡ with_recorded (named_in (entity_ancestors e)) stored (map uid_name (entity_ancestors e))
 
 -- the second is the first with all its ancestors, and no parents lead back to it
 pub record IsPlaced (parents : Parentage) (stored : Standing) (e f : Entity) : Type 0 where
   pub parts : KeepsParts e f
-  pub ancestors : (m : EntityName) → (is_among m (map uid_name (entity_ancestors f)) ≡ true) ↔ HasAncestor parents stored (entity_name e) m
+  pub ancestors : (m : EntityName) → (is_among m (map uid_name (entity_ancestors f)) ≡ true)
+      ↔ HasAncestor parents stored (entity_name e) m
   pub acyclic : ¬ Leads parents (entity_name e) (entity_name e)
 
 -- a stored entity that records this name, which is not stored; where there is none, no entity records it

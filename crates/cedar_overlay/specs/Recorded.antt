@@ -1,5 +1,5 @@
 -- Names that the entities of a store record as ancestors, and that the store lacks.
-use Rattle.std.specs.Prelude.{◌≡◌, ◌⊎◌, true, List, [], Option, None, Some, map}
+use Rattle.std.specs.Prelude.{◌≡◌, ◌⊎◌, true, List, Option, None, Some}
 use Rattle.std.specs.Map.{lookup}
 use Rattle.std.specs.Option.{is_some}
 use Rattle.cedar_model.specs.Terms.{EntityName}
@@ -35,7 +35,8 @@ AreRecorded stored rs =
 pub AreRecorded-prop : (stored : Standing) (rs : Recorders) (x y : AreRecorded stored rs) → x ≡ y
 AreRecorded-prop stored rs x y = λ i n u h. Bool-set _ _ (x n u h) (y n u h) i
 
--- those that were there stay, those of these names that the store lacks are there, and what is new stands beside this one
+-- those that were there stay, those of these names that the store lacks are there, and what is new stands beside this
+-- one
 pub record Notes (stored : Standing) (old new : Recorders) (names : List EntityName) (of : EntityName) : Type 0 where
   pub stay : (n : EntityName) → is_some (recorder_of old n) ≡ true → is_some (recorder_of new n) ≡ true
   pub noted : (n : EntityName) → is_among n names ≡ true → stored n ≡ None → is_some (recorder_of new n) ≡ true

@@ -60,7 +60,8 @@ fn put_new(
 ) -> Result<(), EntitiesError>
     ensures names { OnOk result (named_in names.new.keys ≡ with_name (named_in names.old.keys) (uid_name uid.now)) }
     ensures new { OnOk result (IsNew (stored_entity entities.now) (named_in names.old.keys) (uid_name uid.now)) }
-    ensures refused { IfErr result (IsNotNew (stored_entity entities.now) (named_in names.old.keys) (uid_name uid.now)) }
+    ensures refused { IfErr result (IsNotNew (stored_entity entities.now) (named_in names.old.keys)
+        (uid_name uid.now)) }
 {
     match entities.get(uid) {
         Some(_) => Err(EntitiesError::AlreadyStored(copied_uid(uid)?)),

@@ -1,4 +1,4 @@
-use Rattle.std.proofs.Common.{◌||◌, Bool, sym, ap, ◌∙◌}
+use Rattle.std.proofs.Common.{◌||◌, ap, ◌∙◌}
 use Rattle.std.specs.Option.{is_some}
 use Rattle.cedar_names.specs.Names.{uid_name}
 use Rattle.cedar_layers.proofs.Stores.{list_any-uids}

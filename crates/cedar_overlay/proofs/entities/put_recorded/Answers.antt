@@ -1,4 +1,4 @@
-use Rattle.std.proofs.Common.{Option, List, sym, ap, ◌∙◌, map}
+use Rattle.std.proofs.Common.{Option, ap, ◌∙◌, map}
 use Rattle.cedar_names.specs.Names.{uid_name}
 use Rattle.cedar_layers.specs.declared.policies.entities.Entity.{Entity}
 use Rattle.cedar_hierarchy.specs.Ancestry.{recorded}

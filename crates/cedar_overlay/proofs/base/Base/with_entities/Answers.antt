@@ -1,7 +1,6 @@
 use Rattle.std.proofs.Common.{ap, ◌∙◌}
 use Rattle.cedar_layers.specs.declared.policies.entities.Entities.{Entities}
 use Rattle.cedar_layers.specs.Stores.{stored_entity, standing_with_each}
-use Rattle.cedar_hierarchy.specs.Ancestry.{parents_of}
 use Rattle.cedar_overlay.specs.Bases.{base_entities}
 use Rattle.cedar_overlay.proofs.Placed.{is_added, has_ancestors, has_no_cycle, records_all}
 use Rattle.cedar_overlay.proofs.base.Base.with_entities.Goals as goal
