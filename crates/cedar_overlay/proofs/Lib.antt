@@ -1,2 +1,8 @@
 mod Laid
 mod Parts
+mod Results
+mod Noted
+mod Standing
+mod Checked
+mod Widened
+mod Placed

@@ -1,5 +1,5 @@
 -- What a store and the attributes that a request brings are together, on plain data.
-use Rattle.std.specs.Prelude.{◌≡◌, ⊤, Bool, true, false, if◌then◌else◌, List, [], ◌∷◌, Option, None, Some, option_map, IfSome}
+use Rattle.std.specs.Prelude.{◌≡◌, ⊤, Bool, true, false, List, [], ◌∷◌, Option, None, Some, option_map, IfSome}
 use Rattle.std.specs.Cmp.Lexicographic.{slice_cmp}
 use Rattle.std.specs.BTreeMap.{BTreeMap}
 use Rattle.std.specs.List.{list_any}

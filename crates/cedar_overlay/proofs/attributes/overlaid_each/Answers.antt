@@ -1,4 +1,3 @@
-use Rattle.std.proofs.Common.{◌≡◌}
 use Rattle.cedar_layers.specs.Stores.{store_view, stored_entity}
 use Rattle.cedar_overlay.proofs.Laid.{begun, further, refused, all_held, all_others, all_free}
 use Rattle.cedar_overlay.proofs.attributes.overlaid_each.Goals as goal
