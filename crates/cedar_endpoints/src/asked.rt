@@ -54,6 +54,12 @@ pub enum Keys {
     Action,
     /// Those of the options of several evaluations.
     Options,
+    /// Those of Cedar's own request.
+    Request,
+    /// Those of an entity in it.
+    Uid,
+    /// That of an entity which stands at `__entity`.
+    Escape,
 }
 
 /// What the document asks by itself. Refuses what is no object, a member that is unexpected, one that is missing or of
@@ -360,7 +366,16 @@ fn knows(keys: Keys, key: &str) -> bool
         Keys::Entity => key == "type" || key == "id" || key == "properties",
         Keys::Action => key == "name" || key == "properties",
         Keys::Options => key == "evaluations_semantic",
+        Keys::Request => is_request_key(key),
+        Keys::Uid => key == "type" || key == "id",
+        Keys::Escape => key == "__entity",
     }
+}
+
+fn is_request_key(key: &str) -> bool
+    ensures { result ≡ asked.is_request_key key.now }
+{
+    key == "principal" || key == "action" || key == "resource" || key == "context"
 }
 
 fn is_evaluation_key(key: &str) -> bool
