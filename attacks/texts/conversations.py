@@ -398,14 +398,20 @@ def not_partly(what, path, reason, body):
 
 DELETES = {"principal": {"type": "User"}, "action": 'Action::"delete"', "resource": {"type": "Document", "id": "plan"}, "context": {}}
 PRINTS = {"principal": 'User::"bob"', "action": 'Action::"print"', "resource": {"__entity": said(MENU)}}
+# The scope is one chain from the left: of who asks nothing is known, the action is another, and the resource is a document. An unknown on the
+# left stays, since it may still err or be no member; what stands on the right is evaluated.
+STAFF_LEFT = ('@id("staff reads")\npermit(principal, action, resource)\n'
+              'when { unknown("principal") in Group::"staff" && false && true && true };')
 OWNER_LEFT = '@id("owner")\npermit(principal, action, resource)\nwhen { true && (true && User::"ann" == unknown("principal")) };'
 DAY_LEFT = ('@id("by day")\npermit(principal, action, resource)\n'
             'when { true && (8 <= unknown("context").hour && unknown("context").hour < 18) };')
 PARTIAL = [
     partly("nothing is unknown", {"principal": 'User::"ann"', "action": {"type": "Action", "id": "read"}, "resource": said(PLAN), "context": {}},
            "allow", ["policy0", "policy1"], {}, [], ["policy0", "policy1"]),
-    partly("of who asks the type is known", DELETES, None, ["policy1"], {"policy1": OWNER_LEFT}, ["principal"]),
-    partly("nothing is known of who asks", but(DELETES, principal=None), None, ["policy1"], {"policy1": OWNER_LEFT}, ["principal"]),
+    partly("of who asks the type is known", DELETES, None, ["policy0", "policy1"], {"policy0": STAFF_LEFT, "policy1": OWNER_LEFT},
+           ["principal"]),
+    partly("nothing is known of who asks", but(DELETES, principal=None), None, ["policy0", "policy1"],
+           {"policy0": STAFF_LEFT, "policy1": OWNER_LEFT}, ["principal"]),
     partly("the context is unknown", PRINTS, None, ["policy3"], {"policy3": DAY_LEFT}, ["context"]),
     partly("an unknown in the context", PRINTS | {"context": {"hour": {"__extn": {"fn": "unknown", "arg": "hour"}}}}, None, ["policy3"],
            {"policy3": DAY_LEFT.replace('unknown("context").hour', 'unknown("hour")')}, ["hour"]),
@@ -447,6 +453,8 @@ def by_then(what, subject, allowed, reasons, of):
     return (what, request("POST", EVALUATION, evaluation(subject, "read", PLAN)), due(200, body, of=of))
 
 
+# By these policies bob reads each document: the first page has two, and the next begins behind the second.
+DOCUMENTS = [place for place, it in enumerate(STORED) if it[0] == "Document"]
 FIRST_PAGE = page("resource", BY_ANN, None, 0)
 RELOADS = [
     ("policies with GET", request("GET", NEW_POLICIES), NO_PUT()),
@@ -464,7 +472,8 @@ RELOADS = [
     by_then("by these bob reads", BOB, True, ["policy0"], SECOND),
     ("a token of the version before", search("resource", BY_ANN, token=FIRST_PAGE[1]), wrong(*NO_TOKEN, of=SECOND)),
     ("what bob reads by then", search("resource", BY_ANN | {"subject": BOB}),
-     due(200, {"results": [said(STORED[0]), said(STORED[1])], "page": {"next_token": f"{SECOND}-2"}}, of=SECOND)),
+     due(200, {"results": [said(STORED[it]) for it in DOCUMENTS[:PAGE_SIZE]],
+               "page": {"next_token": f"{SECOND}-{DOCUMENTS[PAGE_SIZE - 1] + 1}"}}, of=SECOND)),
     takes("other entities", NEW_ENTITIES, FEWER, THIRD),
     ("what bob reads of these", search("resource", BY_ANN | {"subject": BOB}),
      due(200, {"results": [said(PLAN)], "page": {"next_token": ""}}, of=THIRD)),
