@@ -277,8 +277,22 @@ SEVERAL = [
 
 # ---- searches
 
-# The candidates of each search: the entities of the store, by their types and then by their ids.
-STORED = sorted((it["uid"]["type"], it["uid"]["id"]) for it in json.loads(read("documents.json")))
+def named_action(node):
+    """The action that a scope names by `==`, if it does."""
+    if node.head == "true":
+        return []
+    assert node.head == "==", node
+    kind, id = node.parts[1].head.removeprefix("(entity ").split(" ", 1)
+    return [(kind, json.loads(id))]
+
+
+def candidates_of(policies, entities):
+    """The candidates of each search: the entities of the store and the actions that scopes name, by their types and then by their ids."""
+    stored = [(it["uid"]["type"], it["uid"]["id"]) for it in json.loads(entities)]
+    return sorted({*stored, *(name for policy in policies for name in named_action(policy.action))})
+
+
+STORED = candidates_of(POLICIES, read("documents.json"))
 
 
 def search(part, known, context=None, token=None, **more):
@@ -454,7 +468,8 @@ def by_then(what, subject, allowed, reasons, of):
 
 
 # By these policies bob reads each document: the first page has two, and the next begins behind the second.
-DOCUMENTS = [place for place, it in enumerate(STORED) if it[0] == "Document"]
+THEN = candidates_of(reads(LESS.decode()), ENTITIES_TEXT)
+DOCUMENTS = [place for place, it in enumerate(THEN) if it[0] == "Document"]
 FIRST_PAGE = page("resource", BY_ANN, None, 0)
 RELOADS = [
     ("policies with GET", request("GET", NEW_POLICIES), NO_PUT()),
@@ -472,7 +487,7 @@ RELOADS = [
     by_then("by these bob reads", BOB, True, ["policy0"], SECOND),
     ("a token of the version before", search("resource", BY_ANN, token=FIRST_PAGE[1]), wrong(*NO_TOKEN, of=SECOND)),
     ("what bob reads by then", search("resource", BY_ANN | {"subject": BOB}),
-     due(200, {"results": [said(STORED[it]) for it in DOCUMENTS[:PAGE_SIZE]],
+     due(200, {"results": [said(THEN[it]) for it in DOCUMENTS[:PAGE_SIZE]],
                "page": {"next_token": f"{SECOND}-{DOCUMENTS[PAGE_SIZE - 1] + 1}"}}, of=SECOND)),
     takes("other entities", NEW_ENTITIES, FEWER, THIRD),
     ("what bob reads of these", search("resource", BY_ANN | {"subject": BOB}),

@@ -4,8 +4,8 @@
 //! - `engine`: `Engine`, and why none is made of two texts. `deciding`: what an engine answers, as `cedar_endpoints`
 //!   asks it.
 //! - `requests`, `names`, `contexts`: the request that is asked. `responses`: the decision, and its response as JSON.
-//! - `searching`: what a search finds. `candidates`: the entities that it goes over. `opened`: the request in which a part
-//!   is searched for. `found`: what is found, as JSON. `versions`: the version of what is decided and found.
+//! - `searching`: what a search finds. `opened`: the request in which a part is searched for. `found`: what is found, as
+//!   JSON. `versions`: the version of what is decided and found.
 //! - `partials`, `leaving`: the request of which parts may be unknown, and what is left of the policies for it.
 //! - `loaded`: an engine with its texts, of which one can be replaced. `reasons`: what is wrong with policies.
 //! - `faults`: why there is no decision. `serving`: one connection.
@@ -20,7 +20,6 @@
 //! these answers.
 #![tactic(auto)]
 
-mod candidates;
 mod contexts;
 mod deciding;
 mod engine;
