@@ -23,6 +23,7 @@ CRATE = os.path.join(os.path.dirname(os.path.realpath(__file__)), "..", "..", "c
 REASONS = {200: "OK", 400: "Bad Request", 404: "Not Found", 405: "Method Not Allowed", 413: "Payload Too Large", 414: "URI Too Long",
            431: "Request Header Fields Too Large", 501: "Not Implemented"}
 EVALUATION, EVALUATIONS, AUTHORIZE, HEALTH = "/access/v1/evaluation", "/access/v1/evaluations", "/v1/authorize", "/healthz"
+PARTLY, NEW_POLICIES, NEW_ENTITIES = "/v1/partially-authorize", "/v1/policies", "/v1/entities"
 METADATA = "/.well-known/authzen-configuration"
 SEARCH = {part: f"/access/v1/search/{part}" for part in ("subject", "action", "resource")}
 URL = "https://pdp.example.com"
@@ -66,9 +67,17 @@ def chunks(body, *sizes):
 
 # ---- what is due
 
-def due(status, body, allow=None, id=None, is_head=False, version="1.1", connection=None):
+def version_of(policies, entities):
+    return hashlib.sha256(policies + b"\0" + entities).hexdigest()
+
+
+VERSION = version_of(read("documents.cedar"), read("documents.json"))
+
+
+def due(status, body, allow=None, id=None, is_head=False, version="1.1", connection=None, of=VERSION):
+    """`of` is the version of the policies and entities which there are then."""
     body = body if isinstance(body, bytes) else compact(body).encode()
-    lines = [f"HTTP/{version} {status} {REASONS[status]}", "content-type: application/json"]
+    lines = [f"HTTP/{version} {status} {REASONS[status]}", "content-type: application/json", f"cedar-version: {of}"]
     lines += [f"allow: {allow}"] if allow else []
     lines += [f"x-request-id: {id}"] if id is not None else []
     lines += [f"content-length: {len(body)}"]
@@ -268,9 +277,22 @@ SEVERAL = [
 
 # ---- searches
 
-VERSION = hashlib.sha256(read("documents.cedar") + b"\0" + read("documents.json")).hexdigest()
-# The candidates of each search: the entities of the store, by their types and then by their ids.
-STORED = sorted((it["uid"]["type"], it["uid"]["id"]) for it in json.loads(read("documents.json")))
+def named_action(node):
+    """The action that a scope names by `==`, if it does."""
+    if node.head == "true":
+        return []
+    assert node.head == "==", node
+    kind, id = node.parts[1].head.removeprefix("(entity ").split(" ", 1)
+    return [(kind, json.loads(id))]
+
+
+def candidates_of(policies, entities):
+    """The candidates of each search: the entities of the store and the actions that scopes name, by their types and then by their ids."""
+    stored = [(it["uid"]["type"], it["uid"]["id"]) for it in json.loads(entities)]
+    return sorted({*stored, *(name for policy in policies for name in named_action(policy.action))})
+
+
+STORED = candidates_of(POLICIES, read("documents.json"))
 
 
 def search(part, known, context=None, token=None, **more):
@@ -375,6 +397,111 @@ CEDAR = [
     ("Cedar's request with another member", request("POST", AUTHORIZE, {"principal": 'User::"ann"', "subject": 1}), wrong("$.subject", "unexpected")),
     ("Cedar's request that is no UTF-8", request("POST", AUTHORIZE, b"\xff"), wrong("$", "not UTF-8")),
 ]
+
+
+def partly(what, request_said, decision, may, residuals, unknowns, must=()):
+    """What is left of policies for a request of which parts are unknown, as docs/COMMANDS.md has it."""
+    body = {"decision": decision, "mustBeDetermining": list(must), "mayBeDetermining": may, "residuals": residuals,
+            "unknowns": unknowns, "missingEntities": [], "errors": []}
+    return (what, request("POST", PARTLY, request_said), due(200, body))
+
+
+def not_partly(what, path, reason, body):
+    return (what, request("POST", PARTLY, body), wrong(path, reason))
+
+
+DELETES = {"principal": {"type": "User"}, "action": 'Action::"delete"', "resource": {"type": "Document", "id": "plan"}, "context": {}}
+PRINTS = {"principal": 'User::"bob"', "action": 'Action::"print"', "resource": {"__entity": said(MENU)}}
+# The scope is one chain from the left: of who asks nothing is known, the action is another, and the resource is a document. An unknown on the
+# left stays, since it may still err or be no member; what stands on the right is evaluated.
+STAFF_LEFT = ('@id("staff reads")\npermit(principal, action, resource)\n'
+              'when { unknown("principal") in Group::"staff" && false && true && true };')
+OWNER_LEFT = '@id("owner")\npermit(principal, action, resource)\nwhen { true && (true && User::"ann" == unknown("principal")) };'
+DAY_LEFT = ('@id("by day")\npermit(principal, action, resource)\n'
+            'when { true && (8 <= unknown("context").hour && unknown("context").hour < 18) };')
+PARTIAL = [
+    partly("nothing is unknown", {"principal": 'User::"ann"', "action": {"type": "Action", "id": "read"}, "resource": said(PLAN), "context": {}},
+           "allow", ["policy0", "policy1"], {}, [], ["policy0", "policy1"]),
+    partly("of who asks the type is known", DELETES, None, ["policy0", "policy1"], {"policy0": STAFF_LEFT, "policy1": OWNER_LEFT},
+           ["principal"]),
+    partly("nothing is known of who asks", but(DELETES, principal=None), None, ["policy0", "policy1"],
+           {"policy0": STAFF_LEFT, "policy1": OWNER_LEFT}, ["principal"]),
+    partly("the context is unknown", PRINTS, None, ["policy3"], {"policy3": DAY_LEFT}, ["context"]),
+    partly("an unknown in the context", PRINTS | {"context": {"hour": {"__extn": {"fn": "unknown", "arg": "hour"}}}}, None, ["policy3"],
+           {"policy3": DAY_LEFT.replace('unknown("context").hour', 'unknown("hour")')}, ["hour"]),
+    not_partly("what is left, of no JSON", "$", "not JSON", b""),
+    not_partly("what is left, of no object", "$", "not an object", []),
+    not_partly("what is left, of another member", "$", "an unexpected member", PRINTS | {"subject": 1}),
+    not_partly("what is left, of a principal that is a number", "$.principal", "not an object", PRINTS | {"principal": 1}),
+    not_partly("what is left, of an id that is a number", "$.action.id", "not a string", PRINTS | {"action": {"type": "Action", "id": 1}}),
+    not_partly("what is left, without a type", "$.resource.__entity.type", "missing", PRINTS | {"resource": {"__entity": {"id": "plan"}}}),
+    not_partly("what is left, with a member beside `__entity`", "$.resource", "an unexpected member",
+               PRINTS | {"resource": {"__entity": said(MENU), "id": ""}}),
+    not_partly("what is left, of a type that is no name", "$.principal", "not a name", PRINTS | {"principal": {"type": "a b"}}),
+    not_partly("what is left, of an entity whose type is no name", "$.resource", "not a name", PRINTS | {"resource": {"type": "", "id": "plan"}}),
+    not_partly("what is left, in a context that is no object", "$.context", "not an object", PRINTS | {"context": "hour"}),
+    not_partly("what is left, with null in the context", "$.context.hour", "null is no value", PRINTS | {"context": {"hour": None}}),
+    ("what is left, with GET", request("GET", PARTLY), NO_POST()),
+]
+
+# ---- other policies and entities, one after another
+
+LESS = b'permit(principal == User::"bob", action, resource);'
+FEWER = b'[{"uid": {"type": "Document", "id": "plan"}, "attrs": {}, "parents": []}]'
+POLICIES_TEXT, ENTITIES_TEXT = read("documents.cedar"), read("documents.json")
+SECOND, THIRD, FOURTH = version_of(LESS, ENTITIES_TEXT), version_of(LESS, FEWER), version_of(POLICIES_TEXT, FEWER)
+NO_PUT = lambda **more: wrong("$", "there is PUT alone", 405, allow="PUT", **more)
+
+
+def takes(what, path, text, of):
+    return (what, request("PUT", path, text), due(200, {"version": of}, of=of))
+
+
+def left_out(what, path, text, where, reason, of=VERSION):
+    return (what, request("PUT", path, text), wrong(where, reason, of=of))
+
+
+def by_then(what, subject, allowed, reasons, of):
+    """An evaluation by other policies, with the reasons."""
+    body = {"decision": allowed, "context": {"decision": "allow" if allowed else "deny", "reason": reasons, "errors": []}}
+    return (what, request("POST", EVALUATION, evaluation(subject, "read", PLAN)), due(200, body, of=of))
+
+
+# By these policies bob reads each document: the first page has two, and the next begins behind the second.
+THEN = candidates_of(reads(LESS.decode()), ENTITIES_TEXT)
+DOCUMENTS = [place for place, it in enumerate(THEN) if it[0] == "Document"]
+FIRST_PAGE = page("resource", BY_ANN, None, 0)
+RELOADS = [
+    ("policies with GET", request("GET", NEW_POLICIES), NO_PUT()),
+    ("entities with POST", request("POST", NEW_ENTITIES, []), NO_PUT()),
+    left_out("policies that are none", NEW_POLICIES, b"permit(principal, action);", "$", "line 1, column 25: expected `,`, found `)`"),
+    left_out("policies that are no UTF-8", NEW_POLICIES, b"\xff", "$", "not UTF-8"),
+    left_out("entities that are no JSON", NEW_ENTITIES, b"[", "$", "not JSON"),
+    left_out("entities of which one has no uid", NEW_ENTITIES, b"[{}]", "$[0].uid", "missing"),
+    left_out("entities with a key twice", NEW_ENTITIES, b'[{"uid":1,"uid":1}]', "$", "a key comes twice in an object"),
+    left_out("parents that lead back", NEW_ENTITIES, b'[{"uid": {"type": "G", "id": "a"}, "attrs": {}, "parents": [{"type": "G", "id": "a"}]}]', "$",
+             'the parents of the entity `G::"a"` lead back to it'),
+    by_then("it decides as before", ANN, True, ["policy0", "policy1"], VERSION),
+    takes("other policies", NEW_POLICIES, LESS, SECOND),
+    by_then("by these ann does not read", ANN, False, [], SECOND),
+    by_then("by these bob reads", BOB, True, ["policy0"], SECOND),
+    ("a token of the version before", search("resource", BY_ANN, token=FIRST_PAGE[1]), wrong(*NO_TOKEN, of=SECOND)),
+    ("what bob reads by then", search("resource", BY_ANN | {"subject": BOB}),
+     due(200, {"results": [said(THEN[it]) for it in DOCUMENTS[:PAGE_SIZE]],
+               "page": {"next_token": f"{SECOND}-{DOCUMENTS[PAGE_SIZE - 1] + 1}"}}, of=SECOND)),
+    takes("other entities", NEW_ENTITIES, FEWER, THIRD),
+    ("what bob reads of these", search("resource", BY_ANN | {"subject": BOB}),
+     due(200, {"results": [said(PLAN)], "page": {"next_token": ""}}, of=THIRD)),
+    left_out("policies that are none, once more", NEW_POLICIES, b"x", "$",
+             "line 1, column 1: expected a policy, found an identifier", of=THIRD),
+    takes("the first policies again", NEW_POLICIES, POLICIES_TEXT, FOURTH),
+    by_then("over these ann owns nothing", ANN, False, [], FOURTH),
+    takes("the first entities again", NEW_ENTITIES, ENTITIES_TEXT, VERSION),
+    by_then("it decides as at first", ANN, True, ["policy0", "policy1"], VERSION),
+    ("the token is taken again", search("resource", BY_ANN, token=FIRST_PAGE[1]),
+     due(200, {"results": [said(it) for it in page("resource", BY_ANN, None, int(FIRST_PAGE[1].split("-")[1]))[0]],
+               "page": {"next_token": page("resource", BY_ANN, None, int(FIRST_PAGE[1].split("-")[1]))[1]}})),
+]
 ENDPOINTS = [
     ("it answers", request("GET", HEALTH), due(200, {"status": "ok"})),
     ("HEAD", request("HEAD", HEALTH), due(200, {"status": "ok"}, is_head=True)),
@@ -423,7 +550,7 @@ LAST = [
 
 def interleaved():
     """All but the last, in an order that sets good, bad and other ones beside each other."""
-    groups = [list(it) for it in (DECISIONS, WRONG, ENDPOINTS, IDS, CEDAR, FRAMING, SEVERAL, SEARCHES)]
+    groups = [list(it) for it in (DECISIONS, WRONG, ENDPOINTS, IDS, CEDAR, FRAMING, SEVERAL, SEARCHES, PARTIAL)]
     out = []
     while any(groups):
         for group in groups:
@@ -432,8 +559,22 @@ def interleaved():
 
 
 def conversation():
-    rows = [*interleaved(), CUT]
+    rows = [*interleaved(), *RELOADS, CUT]
     return rows, b"".join(it[1] for it in rows), b"".join(it[2] for it in rows)
+
+
+def lines():
+    """Cedar's own requests, a line each, good and bad ones, and the line that is due to each."""
+    rows = []
+    for principal, action, resource, context in ((ANN, "read", PLAN, {}), (BOB, "print", MENU, {"hour": 9}), (BOB, "print", MENU, {"hour": 20}),
+                                                 (ANN, "read", VAULT, {"role": "auditor"}), (EVE, "", PLAN, {"a": [1, "\n", True]})):
+        text = {"principal": said(principal), "action": {"type": "Action", "id": action}, "resource": said(resource), "context": context}
+        rows.append((compact(text).encode(), response(principal, action, resource, context)))
+        rows.append((b"{", {"error": {"path": "$", "reason": "not JSON"}}))
+        rows.append((compact(text | {"subject": 1}).encode(), {"error": {"path": "$.subject", "reason": "unexpected"}}))
+    rows += [(b"", {"error": {"path": "$", "reason": "not JSON"}}), (b"\xff", {"error": {"path": "$", "reason": "not UTF-8"}}),
+             (rows[0][0] + b"\r", rows[0][1])]
+    return b"".join(line + b"\n" for line, _ in rows), b"".join(compact(wanted).encode() + b"\n" for _, wanted in rows)
 
 
 # ---- against a program
@@ -443,9 +584,9 @@ def options():
         return it.read().split("\n")[:-1]
 
 
-def answer(program, pieces):
+def answer(program, pieces, words=None):
     """What the program answers to these bytes, each piece written by itself."""
-    with subprocess.Popen([program, *options()], cwd=f"{CRATE}/data", stdin=subprocess.PIPE, stdout=subprocess.PIPE) as it:
+    with subprocess.Popen([program, *(options() if words is None else words)], cwd=f"{CRATE}/data", stdin=subprocess.PIPE, stdout=subprocess.PIPE) as it:
         reader = threading.Thread(target=lambda: out.append(it.stdout.read()))
         out = []
         reader.start()
@@ -464,8 +605,8 @@ def run(program):
     rows, sent, wanted = conversation()
     faults = []
 
-    def check(what, pieces, wanted):
-        got, status = answer(program, pieces)
+    def check(what, pieces, wanted, words=None):
+        got, status = answer(program, pieces, words)
         if (got, status) != (wanted, 0):
             at = next((n for n, (a, b) in enumerate(zip(got, wanted)) if a != b), min(len(got), len(wanted)))
             faults.append(f"{what}: status {status}, at byte {at}: {got[at - 60:at + 60]!r} instead of {wanted[at - 60:at + 60]!r}")
@@ -481,6 +622,12 @@ def run(program):
         check("the same in pieces", [sent[a:b] for a, b in zip([0, *cuts], [*cuts, len(sent)])], wanted)
     for what, last, ends in LAST:
         check(what, [request("POST", EVALUATION, GOOD) + last], due(200, GOOD_DUE) + ends)
+    sent, wanted = lines()
+    words = [*options()[:4], "--lines"]
+    check("lines", [sent], wanted, words)
+    check("no line", [b""], b"", words)
+    check("lines in pieces", [sent[at:at + 7] for at in range(0, len(sent), 7)], wanted, words)
+    check("the last without an end", [sent[:-1]], wanted, words)
     for fault in faults:
         print("FAILED:", fault)
     print(f"conversations: {len(rows)} requests in one, {len(LAST)} that end one, {len(faults)} failed")

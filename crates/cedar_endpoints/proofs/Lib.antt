@@ -6,3 +6,7 @@ mod Texts
 mod Joined
 mod Listed
 mod Due
+mod Untold
+mod Changed
+mod Lined
+mod Versions

@@ -85,6 +85,11 @@ is_action_search_key k =
     bytes_eq k (codes "subject") || (bytes_eq k (codes "resource") || (bytes_eq k (codes "context")
     || bytes_eq k (codes "page")))
 
+abbrev pub is_request_key : Text → Bool
+is_request_key k =
+    bytes_eq k (codes "principal") || (bytes_eq k (codes "action") || (bytes_eq k (codes "resource")
+    || bytes_eq k (codes "context")))
+
 abbrev pub knows : Keys → Text → Bool
 knows keys.Evaluation k = is_evaluation_key k
 knows keys.Evaluations k =
@@ -96,6 +101,9 @@ knows keys.Entity k =
     bytes_eq k (codes "type") || (bytes_eq k (codes "id") || bytes_eq k (codes "properties"))
 knows keys.Action k = bytes_eq k (codes "name") || bytes_eq k (codes "properties")
 knows keys.Options k = bytes_eq k (codes "evaluations_semantic")
+knows keys.Request k = is_request_key k
+knows keys.Uid k = bytes_eq k (codes "type") || bytes_eq k (codes "id")
+knows keys.Escape k = bytes_eq k (codes "__entity")
 
 -- some member has another key
 abbrev pub has_other : Keys → Members → Bool

@@ -7,4 +7,8 @@ pub mod Documents
 pub mod Several
 pub mod Tokens
 pub mod Found
+pub mod Partials
+pub mod Reloads
 pub mod Served
+pub mod Answered
+pub mod Lines

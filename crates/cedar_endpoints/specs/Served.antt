@@ -1,5 +1,5 @@
 -- What a service answers to requests over HTTP, whatever decides behind it.
-use Rattle.std.specs.Prelude.{List, ℕ, Option, Some, None, codes, string_bytes}
+use Rattle.std.specs.Prelude.{Bool, List, ℕ, Option, Some, None, codes, string_bytes}
 use Rattle.std.specs.Str.{IsUtf8}
 use Rattle.json.specs.Json.{Json}
 use Rattle.http.specs.declared.request.Request.{Request}
@@ -22,6 +22,8 @@ use Rattle.cedar_endpoints.specs.Found.{Finder, IsSearched}
 use Rattle.cedar_endpoints.specs.Documents.{IsRepliedTo, whole}
 use Rattle.cedar_endpoints.specs.Replies.{Replies, IsFault, error_text}
 use Rattle.cedar_endpoints.specs.Several.{Decides, IsDecided, AreEvaluated}
+use Rattle.cedar_endpoints.specs.Partials.{Leaves, IsPartlyAnswered}
+use Rattle.cedar_endpoints.specs.Reloads.{Reloads, Refuses, IsUntakenIf, IsPutAlone}
 use Rattle.cedar_endpoints.specs.Routes.{route_of}
 
 -- ---- AuthZEN's documents
@@ -29,12 +31,6 @@ use Rattle.cedar_endpoints.specs.Routes.{route_of}
 -- the document's evaluation is decided, if it says one
 abbrev pub IsEvaluated : Decides Evaluation → Json → Reply → Type 0
 IsEvaluated decides j r = IsDecided decides (evaluation_said j) r
-
--- the same, or all evaluations of a document that may ask several, or a page of what is searched for
-abbrev pub IsAskedAs : Asks → Decides Evaluation → Finder → Json → Reply → Type 0
-IsAskedAs asks.One decides searches = IsEvaluated decides
-IsAskedAs asks.Several decides searches = AreEvaluated decides
-IsAskedAs (asks.Part sought) decides searches = IsSearched searches sought
 
 -- ---- Cedar's own request
 
@@ -55,17 +51,37 @@ abbrev pub IsMetadata : Option Text → Reply → Type 0
 IsMetadata None = IsFault statuses.NotFound (whole (codes "nothing is here"))
 IsMetadata (Some text) = Replies statuses.Ok text
 
--- what a service has to offer: its decisions of evaluations and of Cedar's own requests, its searches, and where its
--- endpoints are
+-- what a service has to offer: its decisions of evaluations and of Cedar's own requests, what it leaves of policies,
+-- its searches, whether other policies and entities are taken in place of these, and where its endpoints are
 pub record Offers : Type 1 where
   pub decides : Decides Evaluation
   pub authorizes : Decides Text
+  pub leaves : Leaves
   pub searches : Finder
+  pub reloads : Reloads
   pub metadata : Option Text
 
-abbrev pub offered : Decides Evaluation → Decides Text → Finder → Option Text → Offers
-offered decides authorizes searches metadata =
-    record { decides = decides; authorizes = authorizes; searches = searches; metadata = metadata }
+abbrev pub reloads_of : Bool → Refuses → Reloads
+reloads_of allows refuses = record { allows = allows; refuses = refuses }
+
+abbrev pub offered : Decides Evaluation → Decides Text → Leaves → Finder → Reloads → Option Text → Offers
+offered decides authorizes leaves searches reloads metadata =
+    record {
+      decides = decides;
+      authorizes = authorizes;
+      leaves = leaves;
+      searches = searches;
+      reloads = reloads;
+      metadata = metadata;
+    }
+
+-- what is replied to a document: one evaluation is decided, or all of a document that may ask several, or it is a page
+-- of what is searched for, or what is left of policies
+abbrev pub IsAskedAs : Asks → Offers → Json → Reply → Type 0
+IsAskedAs asks.One s = IsEvaluated s.decides
+IsAskedAs asks.Several s = AreEvaluated s.decides
+IsAskedAs (asks.Part sought) s = IsSearched s.searches sought
+IsAskedAs asks.Partly s = IsPartlyAnswered s.leaves
 
 -- what is replied at an endpoint to a body
 abbrev pub IsReply : Offers → Route → Text → Reply → Type 0
@@ -73,10 +89,13 @@ IsReply s routes.Evaluation body r = IsRepliedTo (IsEvaluated s.decides) body r
 IsReply s routes.Evaluations body r = IsRepliedTo (AreEvaluated s.decides) body r
 IsReply s (routes.Search sought) body r = IsRepliedTo (IsSearched s.searches sought) body r
 IsReply s routes.Authorize body r = IsAuthorized s.authorizes body r
+IsReply s routes.PartiallyAuthorize body r = IsRepliedTo (IsPartlyAnswered s.leaves) body r
+IsReply s (routes.Reload part) body r = IsUntakenIf s.reloads.allows s.reloads.refuses part body r
 IsReply s routes.Health body r = Replies statuses.Ok (codes "{\"status\":\"ok\"}") r
 IsReply s routes.Metadata body r = IsMetadata s.metadata r
 IsReply s routes.PostOnly body r = IsFault statuses.PostOnly (whole (codes "there is POST alone")) r
 IsReply s routes.GetOnly body r = IsFault statuses.GetOnly (whole (codes "there are GET and HEAD alone")) r
+IsReply s routes.PutOnly body r = IsPutAlone s.reloads.allows r
 IsReply s routes.Unknown body r = IsFault statuses.NotFound (whole (codes "nothing is here")) r
 
 -- ---- over HTTP
@@ -93,4 +112,4 @@ request_id q = get (head_of q).headers (codes "x-request-id")
 pub record IsServed (s : Offers) (q : Request (List ℕ)) (p : Response) : Type 0 where
   pub reply : Reply
   pub is_due : IsReply s (asked_route q) (body_of q) reply
-  pub sent : IsSent reply.status (request_id q) (string_bytes reply.body) p
+  pub sent : IsSent reply.status s.searches.version (request_id q) (string_bytes reply.body) p

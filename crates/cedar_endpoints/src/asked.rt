@@ -54,6 +54,12 @@ pub enum Keys {
     Action,
     /// Those of the options of several evaluations.
     Options,
+    /// Those of Cedar's own request.
+    Request,
+    /// Those of an entity in it.
+    Uid,
+    /// That of an entity which stands at `__entity`.
+    Escape,
 }
 
 /// What the document asks by itself. Refuses what is no object, a member that is unexpected, one that is missing or of
@@ -66,7 +72,7 @@ pub fn read_evaluation<'v, 'a>(value: &'v Value<'a>) -> Result<Evaluation<'v, 'a
 }
 
 /// What the object of these members asks, with the members of `all` where it has none.
-pub(crate) fn evaluation_of<'v, 'a>(
+pub fn evaluation_of<'v, 'a>(
     keys: Keys,
     value: &'v Value<'a>,
     all: Option<&'v Value<'a>>,
@@ -360,7 +366,16 @@ fn knows(keys: Keys, key: &str) -> bool
         Keys::Entity => key == "type" || key == "id" || key == "properties",
         Keys::Action => key == "name" || key == "properties",
         Keys::Options => key == "evaluations_semantic",
+        Keys::Request => is_request_key(key),
+        Keys::Uid => key == "type" || key == "id",
+        Keys::Escape => key == "__entity",
     }
+}
+
+fn is_request_key(key: &str) -> bool
+    ensures { result ≡ asked.is_request_key key.now }
+{
+    key == "principal" || key == "action" || key == "resource" || key == "context"
 }
 
 fn is_evaluation_key(key: &str) -> bool

@@ -1,17 +1,23 @@
 //! What decides.
-ghost use Rattle.std.specs.Prelude.{◌≡◌, ℕ, List, IfOk};
+ghost use Rattle.std.specs.Prelude.{◌≡◌, ℕ, List, IfOk, IfErr};
 ghost use Rattle.cedar_endpoints.specs.declared.replies.Outcome.{Outcome};
 ghost use Rattle.cedar_endpoints.specs.declared.replies.Finding.{Finding};
 ghost use Rattle.cedar_endpoints.specs.Asked as asked;
+ghost use Rattle.cedar_endpoints.specs.declared.replies.Remainder.{Remainder};
+ghost use Rattle.cedar_endpoints.specs.declared.routes.Replaced.{Replaced};
+ghost use Rattle.cedar_endpoints.specs.Reloads.{IsNotRemade};
 ghost use Rattle.cedar_endpoints.specs.Searches as searches;
+ghost use Rattle.cedar_endpoints.specs.Partials as partials;
 
 use crate::asked::Evaluation;
-use crate::replies::{Finding, Outcome};
+use crate::partials::Partial;
+use crate::replies::{Finding, NotRemade, Outcome, Remainder};
+use crate::routes::Replaced;
 use crate::searches::Search;
 use std::alloc::{AllocError, Global};
 
 /// Decides what is asked. It is lent, so that no question changes what the next one is answered.
-pub trait Decider {
+pub trait Decider: Drop {
     // What may be decided for this evaluation.
     ghost decides: { Self → asked.Evaluation → Outcome → Type 0 };
 
@@ -23,6 +29,15 @@ pub trait Decider {
 
     // How many candidates there are for any search.
     ghost count: { Self → ℕ };
+
+    // What takes its place where this text is taken in place of its policies or its entities.
+    ghost remakes: { Self → Replaced → List ℕ → Self → Type 0 };
+
+    // What may be told where the text is refused.
+    ghost refuses: { Self → Replaced → List ℕ → List ℕ → Type 0 };
+
+    // What may be left of the policies for this request.
+    ghost leaves: { Self → partials.Partial → Remainder → Type 0 };
 
     // What may be decided for the request that this text writes.
     ghost authorizes: { Self → List ℕ → Outcome → Type 0 };
@@ -53,4 +68,19 @@ pub trait Decider {
     /// What is decided for the request that this text writes, or why nothing is. Refuses only if out of memory.
     fn authorize(&self, alloc: Global, text: &str) -> Result<Outcome, AllocError>
         ensures { IfOk result (authorizes self.now text.now) };
+
+    /// What is left of the policies for a request of which parts may be unknown, or why nothing is told. Refuses only
+    /// if out of memory.
+    fn authorize_partially(
+        &self,
+        alloc: Global,
+        request: &Partial<'_, '_>,
+    ) -> Result<Remainder, AllocError>
+        ensures { IfOk result (leaves self.now (partials.partial_view request.now)) };
+
+    /// What takes its place where this text is taken in place of its policies or its entities. Refuses a text that is
+    /// wrong.
+    fn remake(&self, alloc: Global, replaced: Replaced, text: &str) -> Result<Self, NotRemade>
+        ensures remade { IfOk result (remakes self.now replaced text.now) }
+        ensures refused { IfErr result (IsNotRemade (refuses self.now replaced text.now)) };
 }

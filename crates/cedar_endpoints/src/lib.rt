@@ -7,7 +7,9 @@
 //! - `searches`, `tokens`: what a document asks that searches, and the tokens of pages. `found`: what it is answered.
 //! - `several`, `semantics`: what a document with several evaluations asks, and where it stops. `evaluations`: their
 //!   answers.
+//! - `partials`: what Cedar's own request asks, of which parts may be unknown, and what it is answered.
 //! - `decider`: what decides, as a trait. `service`: the service over HTTP that asks it.
+//! - `lines`: Cedar's own requests, a line each. `reloads`: other policies and entities in place of these.
 //! - `documents`: bodies as JSON. `replies`: the JSON texts that are replied. `answers`: the status, the header fields
 //!   and the body that are sent.
 //!
@@ -23,6 +25,9 @@ mod decider;
 mod documents;
 mod evaluations;
 mod found;
+mod lines;
+mod partials;
+mod reloads;
 mod replies;
 mod routes;
 mod searches;
@@ -32,10 +37,14 @@ mod several;
 mod tokens;
 
 pub use answers::Status;
-pub use asked::{Evaluation, Fault, Keys, Named, read_evaluation};
+pub use asked::{Evaluation, Fault, Keys, Named, evaluation_of, read_evaluation};
 pub use decider::Decider;
-pub use replies::{Finding, Outcome, Reply, fault_json};
-pub use routes::{Route, route_of};
+pub use lines::answer_lines;
+pub use partials::{Entry, Partial, read_partial};
+pub use reloads::replaced_by;
+pub use replies::{Finding, NotRemade, Outcome, Remainder, Reply, fault_json};
+pub use routes::{Replaced, Route, route_of};
 pub use searches::{PageSearch, Parts, Search, Sought, read_search};
 pub use semantics::Semantic;
-pub use service::Decisions;
+pub use service::{Decisions, asked_route, reply, send_to};
+pub use several::{Several, read_several};

@@ -33,6 +33,24 @@ pub enum Finding {
     },
 }
 
+/// What is left of policies, or why nothing is told.
+#[derive(Debug, Drop)]
+pub enum Remainder {
+    /// What is left, as JSON.
+    Told { response: String },
+    /// Nothing is told: the error, as JSON.
+    Refused { error: String },
+}
+
+/// Why other policies or entities are not taken.
+#[derive(Debug, Drop)]
+pub enum NotRemade {
+    /// Out of memory.
+    Memory,
+    /// For what is wrong with them: the error, as JSON.
+    Told(String),
+}
+
 /// A status, and a JSON text.
 #[derive(Debug, Drop)]
 pub struct Reply {

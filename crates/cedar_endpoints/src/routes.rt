@@ -1,8 +1,17 @@
 //! Endpoints.
 ghost use Rattle.std.specs.Prelude.{◌≡◌};
-ghost use Rattle.cedar_endpoints.specs.Routes.{route_of, posted, shown};
+ghost use Rattle.cedar_endpoints.specs.Routes.{route_of, posted, put, shown};
 
 use crate::searches::Sought;
+
+/// What other texts can be taken in place of.
+#[derive(Clone, Copy, Debug, PartialEq, Eq)]
+pub enum Replaced {
+    /// The policies.
+    Policies,
+    /// The entities.
+    Entities,
+}
 
 /// What a request asks for, by its method and its path.
 #[derive(Clone, Copy, Debug, PartialEq, Eq)]
@@ -15,6 +24,10 @@ pub enum Route {
     Search(Sought),
     /// A decision, as Cedar's JSON asks for it.
     Authorize,
+    /// What is left of the policies, as Cedar's JSON asks for it.
+    PartiallyAuthorize,
+    /// Other policies or entities in place of these, where that is allowed.
+    Reload(Replaced),
     /// Whether the service answers.
     Health,
     /// Where AuthZEN's endpoints are.
@@ -23,6 +36,8 @@ pub enum Route {
     PostOnly,
     /// What is there for `GET` and `HEAD` alone, with another method.
     GetOnly,
+    /// What is there for `PUT` alone, with another method, where that is allowed.
+    PutOnly,
     /// What is not there.
     Unknown,
 }
@@ -43,6 +58,12 @@ pub fn route_of(method: &str, path: &str) -> Route
         posted(Route::Search(Sought::Resource), method)
     } else if path == "/v1/authorize" {
         posted(Route::Authorize, method)
+    } else if path == "/v1/partially-authorize" {
+        posted(Route::PartiallyAuthorize, method)
+    } else if path == "/v1/policies" {
+        put(Replaced::Policies, method)
+    } else if path == "/v1/entities" {
+        put(Replaced::Entities, method)
     } else if path == "/healthz" {
         shown(Route::Health, method)
     } else if path == "/.well-known/authzen-configuration" {
@@ -59,6 +80,16 @@ fn posted(route: Route, method: &str) -> Route
         route
     } else {
         Route::PostOnly
+    }
+}
+
+fn put(replaced: Replaced, method: &str) -> Route
+    ensures { result ≡ put replaced method.now }
+{
+    if method == "PUT" {
+        Route::Reload(replaced)
+    } else {
+        Route::PutOnly
     }
 }
 

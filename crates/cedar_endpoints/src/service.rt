@@ -1,11 +1,15 @@
-#![tactic(auto, using(crate::proofs::Texts::texts))]
+#![tactic(auto, using(crate::proofs::Texts::texts, crate::proofs::Changed::changed, crate::proofs::Untold::untold))]
 //! The service.
-ghost use Rattle.std.specs.Prelude.{◌≡◌, IfOk, OnOk, option_map, string_bytes};
+ghost use Rattle.std.specs.Prelude.{◌≡◌, Some, None, IfOk, OnOk, OnErr, option_map, string_bytes};
 ghost use Rattle.http_server.specs.Response.{IsBlank};
 ghost use Rattle.cedar_endpoints.specs.Asked.{fault_view};
 ghost use Rattle.json.specs.Value.{value_view};
 ghost use Rattle.cedar_endpoints.specs.Documents.{IsRepliedTo, IsReplyUnread, whole};
 ghost use Rattle.cedar_endpoints.specs.Found.{finder_of};
+ghost use Rattle.cedar_endpoints.specs.Answers.{IsSent};
+ghost use Rattle.cedar_endpoints.specs.Answered.{IsAnswered, IsTakenSent, IsUntakenSent};
+ghost use Rattle.cedar_endpoints.specs.Reloads.{replaced_by};
+ghost use Rattle.cedar_endpoints.specs.Served.{reloads_of, asked_route, request_id};
 ghost use Rattle.cedar_endpoints.specs.Served.{offered, IsEvaluated, IsAskedAs, IsAuthorized, IsResponded, IsMetadata};
 ghost use Rattle.cedar_endpoints.specs.Served.{IsReply, IsServed};
 
@@ -15,8 +19,12 @@ use crate::decider::Decider;
 use crate::documents::{Unread, parse_json};
 use crate::evaluations::{decide_said, evaluate_all};
 use crate::found::search_value;
+use crate::partials::answer_partly;
+use crate::reloads::{
+    Untaken, nothing_here, put_alone, remake, replaced_by, taken_text, unreplaced,
+};
 use crate::replies::{Outcome, Reply, faulty, plain, refused};
-use crate::routes::{Route, route_of};
+use crate::routes::{Replaced, Route, route_of};
 use crate::searches::Sought;
 use bytes::Bytes;
 use http::Request;
@@ -33,6 +41,8 @@ pub(crate) enum Asks {
     Several,
     // A part of one, which is searched for.
     Part(Sought),
+    // Cedar's own request, of which parts may be unknown.
+    Partly,
 }
 
 /// A service that asks one decider.
@@ -44,44 +54,195 @@ pub struct Decisions<D: Decider> {
     pub metadata: Option<String>,
     /// How many a page has at most. With 0 a page is empty, and the next one begins where it does.
     pub page: usize,
+    /// Whether other policies and entities are taken in place of these.
+    pub allows_reload: bool,
 }
 
-/// Each request is answered by what is due to it alone, and the service stays as it is.
+/// Each request is answered by what is due to it alone, and the service stays as it is, but where a request replaces
+/// the policies or the entities and may.
 impl<D: Decider> Service for Decisions<D> {
-    ghost answers = { λ before request response after. (after ≡ before)
-        × IsServed (offered (D.decides before.decider) (D.authorizes before.decider)
-        (finder_of (D.finds before.decider) (D.version before.decider) (D.count before.decider) before.page)
-        (option_map string_bytes before.metadata)) request response };
+    ghost answers = { λ before request response after. IsAnswered (offered
+        (D.decides before.decider) (D.authorizes before.decider) (D.leaves before.decider)
+        (finder_of (D.finds before.decider) (D.version before.decider) (D.count before.decider)
+        before.page)
+        (reloads_of before.allows_reload (D.refuses before.decider))
+        (option_map string_bytes before.metadata))
+        (D.remakes before.decider) D.version request response before after };
 
     fn call(
         &mut self,
         request: &Request<Bytes>,
         response: &mut Response,
     ) -> Result<(), AllocError> {
-        respond(self, request, response)
+        let route = asked_route(request);
+        match replaced_by(self.allows_reload, route) {
+            Some(replaced) => reload(self, replaced, request, response),
+            None => respond(self, route, request, response),
+        }
     }
+}
+
+/// Which endpoint the request names.
+pub fn asked_route(request: &Request<Bytes>) -> Route
+    ensures { result ≡ asked_route request.now }
+{
+    route_of(request.method().as_str(), request.uri().path())
 }
 
 fn respond<D: Decider>(
     service: &Decisions<D>,
+    route: Route,
+    request: &Request<Bytes>,
+    response: &mut Response,
+) -> Result<(), AllocError>
+    requires blank { IsBlank response.old }
+    requires route { route ≡ asked_route request.now }
+    requires stays { replaced_by service.now.allows_reload route ≡ None }
+    ensures { OnOk result (IsServed (offered
+        (D.decides service.now.decider) (D.authorizes service.now.decider) (D.leaves service.now.decider)
+        (finder_of (D.finds service.now.decider) (D.version service.now.decider) (D.count service.now.decider)
+        service.now.page)
+        (reloads_of service.now.allows_reload (D.refuses service.now.decider))
+        (option_map string_bytes service.now.metadata)) request.now response.new) }
+{
+    let reply = reply(service, route, request.body().as_slice())?;
+    let version = service.decider.version_text();
+    send_to(
+        service.alloc,
+        reply.status,
+        version,
+        request,
+        reply.body.as_str(),
+        response,
+    )
+}
+
+/// Puts the status, the body, which is JSON, the version and the request's id, where it has one, into a response that
+/// has nothing yet. Refuses only if out of memory.
+pub fn send_to(
+    alloc: Global,
+    status: Status,
+    version: &str,
+    request: &Request<Bytes>,
+    body: &str,
+    response: &mut Response,
+) -> Result<(), AllocError>
+    requires { IsBlank response.old }
+    ensures { OnOk result (IsSent status version.now (request_id request.now) body.now response.new) }
+{
+    let id = request.headers().get("x-request-id");
+    send(alloc, status, version, id, body, response)
+}
+
+// ---- other policies and entities
+
+fn reload<D: Decider>(
+    service: &mut Decisions<D>,
+    replaced: Replaced,
+    request: &Request<Bytes>,
+    response: &mut Response,
+) -> Result<(), AllocError>
+    requires blank { IsBlank response.old }
+    requires asked { replaced_by service.old.allows_reload (asked_route request.now) ≡ Some replaced }
+    ensures ok { OnOk result (IsAnswered (offered
+        (D.decides service.old.decider) (D.authorizes service.old.decider) (D.leaves service.old.decider)
+        (finder_of (D.finds service.old.decider) (D.version service.old.decider) (D.count service.old.decider)
+        service.old.page)
+        (reloads_of service.old.allows_reload (D.refuses service.old.decider))
+        (option_map string_bytes service.old.metadata))
+        (D.remakes service.old.decider) D.version request.now response.new service.old service.new) }
+    ensures err { OnErr result (service.new ≡ service.old) }
+{
+    match remake(
+        service.alloc,
+        &service.decider,
+        replaced,
+        request.body().as_slice(),
+    ) {
+        Ok(made) => take(service, made, request, response),
+        Err(untaken) => keep(service, untaken, request, response),
+    }
+}
+
+// It decides as what was made.
+fn take<D: Decider>(
+    service: &mut Decisions<D>,
+    made: D,
     request: &Request<Bytes>,
     response: &mut Response,
 ) -> Result<(), AllocError>
     requires { IsBlank response.old }
-    ensures { OnOk result (IsServed (offered (D.decides service.now.decider) (D.authorizes service.now.decider)
-        (finder_of (D.finds service.now.decider) (D.version service.now.decider) (D.count service.now.decider)
-        service.now.page) (option_map string_bytes service.now.metadata)) request.now response.new) }
+    ensures taken { OnOk result (service.new ≡ record service.old { decider = made }) }
+    ensures sent { OnOk result (IsTakenSent (D.version made) request.now response.new) }
+    ensures err { OnErr result (service.new ≡ service.old) }
 {
-    let route = route_of(request.method().as_str(), request.uri().path());
-    let reply = reply(service, route, request.body().as_slice())?;
-    let id = request.headers().get("x-request-id");
-    send(reply.status, id, reply.body.as_str(), response)
+    match send_taken(service.alloc, &made, request, response) {
+        Ok(()) => {
+            service.decider = made;
+            Ok(())
+        }
+        Err(AllocError) => {
+            drop(made);
+            Err(AllocError)
+        }
+    }
 }
 
-fn reply<D: Decider>(service: &Decisions<D>, route: Route, body: &[u8]) -> Result<Reply, AllocError>
-    ensures { IfOk result (IsReply (offered (D.decides service.now.decider) (D.authorizes service.now.decider)
+fn send_taken<D: Decider>(
+    alloc: Global,
+    made: &D,
+    request: &Request<Bytes>,
+    response: &mut Response,
+) -> Result<(), AllocError>
+    requires { IsBlank response.old }
+    ensures { OnOk result (IsTakenSent (D.version made.now) request.now response.new) }
+{
+    let version = made.version_text();
+    let body = taken_text(alloc, version)?;
+    send_to(alloc, Status::Ok, version, request, body.as_str(), response)
+}
+
+// It stays as it is, and why is sent.
+fn keep<D: Decider>(
+    service: &Decisions<D>,
+    untaken: Untaken,
+    request: &Request<Bytes>,
+    response: &mut Response,
+) -> Result<(), AllocError>
+    requires { IsBlank response.old }
+    ensures { OnOk result (IsUntakenSent (D.version service.now.decider) untaken request.now response.new) }
+{
+    match untaken {
+        Untaken::Memory => Err(AllocError),
+        Untaken::Replied(reply) => {
+            let version = service.decider.version_text();
+            send_to(
+                service.alloc,
+                reply.status,
+                version,
+                request,
+                reply.body.as_str(),
+                response,
+            )
+        }
+    }
+}
+
+// ---- what is replied
+
+/// What is replied to a body at an endpoint at which nothing is replaced. Refuses only if out of memory.
+pub fn reply<D: Decider>(
+    service: &Decisions<D>,
+    route: Route,
+    body: &[u8],
+) -> Result<Reply, AllocError>
+    requires { replaced_by service.now.allows_reload route ≡ None }
+    ensures { IfOk result (IsReply (offered
+        (D.decides service.now.decider) (D.authorizes service.now.decider) (D.leaves service.now.decider)
         (finder_of (D.finds service.now.decider) (D.version service.now.decider) (D.count service.now.decider)
-        service.now.page) (option_map string_bytes service.now.metadata)) route body.now) }
+        service.now.page)
+        (reloads_of service.now.allows_reload (D.refuses service.now.decider))
+        (option_map string_bytes service.now.metadata)) route body.now) }
 {
     let alloc = service.alloc;
     match route {
@@ -89,6 +250,8 @@ fn reply<D: Decider>(service: &Decisions<D>, route: Route, body: &[u8]) -> Resul
         Route::Evaluations => ask(service, Asks::Several, body),
         Route::Search(sought) => ask(service, Asks::Part(sought), body),
         Route::Authorize => authorize(alloc, &service.decider, body),
+        Route::PartiallyAuthorize => ask(service, Asks::Partly, body),
+        Route::Reload(replaced) => unreplaced(alloc, service.allows_reload, replaced),
         Route::Health => plain(alloc, "{\"status\":\"ok\"}"),
         Route::Metadata => metadata(alloc, &service.metadata),
         Route::PostOnly => faulty(alloc, Status::PostOnly, whole("there is POST alone")),
@@ -97,11 +260,12 @@ fn reply<D: Decider>(service: &Decisions<D>, route: Route, body: &[u8]) -> Resul
             Status::GetOnly,
             whole("there are GET and HEAD alone"),
         ),
-        Route::Unknown => faulty(alloc, Status::NotFound, whole("nothing is here")),
+        Route::PutOnly => put_alone(alloc, service.allows_reload),
+        Route::Unknown => nothing_here(alloc),
     }
 }
 
-fn whole(reason: &'static str) -> Fault
+pub(crate) fn whole(reason: &'static str) -> Fault
     ensures { fault_view result ≡ whole reason.now }
 {
     Fault {
@@ -116,16 +280,19 @@ fn metadata(alloc: Global, metadata: &Option<String>) -> Result<Reply, AllocErro
 {
     match metadata {
         Some(text) => plain(alloc, text.as_str()),
-        None => faulty(alloc, Status::NotFound, whole("nothing is here")),
+        None => nothing_here(alloc),
     }
 }
 
 // ---- AuthZEN's documents
 
 fn ask<D: Decider>(service: &Decisions<D>, asks: Asks, body: &[u8]) -> Result<Reply, AllocError>
-    ensures { IfOk result (IsRepliedTo (IsAskedAs asks (D.decides service.now.decider)
+    ensures { IfOk result (IsRepliedTo (IsAskedAs asks (offered
+        (D.decides service.now.decider) (D.authorizes service.now.decider) (D.leaves service.now.decider)
         (finder_of (D.finds service.now.decider) (D.version service.now.decider) (D.count service.now.decider)
-        service.now.page)) body.now) }
+        service.now.page)
+        (reloads_of service.now.allows_reload (D.refuses service.now.decider))
+        (option_map string_bytes service.now.metadata))) body.now) }
 {
     match str::from_utf8(body) {
         Ok(text) => ask_text(service, asks, text),
@@ -134,9 +301,12 @@ fn ask<D: Decider>(service: &Decisions<D>, asks: Asks, body: &[u8]) -> Result<Re
 }
 
 fn ask_text<D: Decider>(service: &Decisions<D>, asks: Asks, text: &str) -> Result<Reply, AllocError>
-    ensures { IfOk result (IsRepliedTo (IsAskedAs asks (D.decides service.now.decider)
+    ensures { IfOk result (IsRepliedTo (IsAskedAs asks (offered
+        (D.decides service.now.decider) (D.authorizes service.now.decider) (D.leaves service.now.decider)
         (finder_of (D.finds service.now.decider) (D.version service.now.decider) (D.count service.now.decider)
-        service.now.page)) text.now) }
+        service.now.page)
+        (reloads_of service.now.allows_reload (D.refuses service.now.decider))
+        (option_map string_bytes service.now.metadata))) text.now) }
 {
     let alloc = service.alloc;
     let mut scratch = Scratch::new(alloc);
@@ -167,15 +337,19 @@ fn ask_value<D: Decider>(
     asks: Asks,
     value: &Value<'_>,
 ) -> Result<Reply, AllocError>
-    ensures { IfOk result (IsAskedAs asks (D.decides service.now.decider)
+    ensures { IfOk result (IsAskedAs asks (offered
+        (D.decides service.now.decider) (D.authorizes service.now.decider) (D.leaves service.now.decider)
         (finder_of (D.finds service.now.decider) (D.version service.now.decider) (D.count service.now.decider)
-        service.now.page) (value_view value.now)) }
+        service.now.page)
+        (reloads_of service.now.allows_reload (D.refuses service.now.decider))
+        (option_map string_bytes service.now.metadata)) (value_view value.now)) }
 {
     let alloc = service.alloc;
     match asks {
         Asks::One => evaluate_one(alloc, &service.decider, value),
         Asks::Several => evaluate_all(alloc, &service.decider, value),
         Asks::Part(sought) => search_value(alloc, &service.decider, service.page, sought, value),
+        Asks::Partly => answer_partly(alloc, &service.decider, value),
     }
 }
 
@@ -191,7 +365,11 @@ fn evaluate_one<D: Decider>(
 
 // ---- Cedar's own request
 
-fn authorize<D: Decider>(alloc: Global, decider: &D, body: &[u8]) -> Result<Reply, AllocError>
+pub(crate) fn authorize<D: Decider>(
+    alloc: Global,
+    decider: &D,
+    body: &[u8],
+) -> Result<Reply, AllocError>
     ensures { IfOk result (IsAuthorized (D.authorizes decider.now) body.now) }
 {
     match str::from_utf8(body) {

@@ -16,6 +16,10 @@ pub(crate) struct Options<'a> {
     pub(crate) url: Option<&'a str>,
     /// How many a page of a search has at most, if that is said.
     pub(crate) page_size: Option<usize>,
+    /// Whether requests come a line each, and not over HTTP.
+    pub(crate) is_lines: bool,
+    /// Whether requests may put other policies and entities in place of these.
+    pub(crate) allows_reload: bool,
     /// How many bytes the body of a request may have, if that is said.
     pub(crate) max_body: Option<usize>,
 }
@@ -24,6 +28,7 @@ pub(crate) struct Options<'a> {
 pub(crate) fn command<'a>(alloc: Global) -> Result<Command<'a>, AllocError> {
     let url = "Where the service is, as https://pdp.example.com, for AuthZEN's metadata";
     let page_size = "How many a page of a search has at most; left out, 100";
+    let allow_reload = "Takes PUT /v1/policies and PUT /v1/entities from whoever is connected";
     let max_body = "How many bytes a body may have; left out, 1,048,576";
     Command::new(alloc, "cedar_serve")
         .bin_name("cedar_serve")?
@@ -34,6 +39,8 @@ pub(crate) fn command<'a>(alloc: Global) -> Result<Command<'a>, AllocError> {
         .arg(option(alloc, "page-size", "COUNT", page_size).value_parser(ValueParser::Unsigned(
             1, 1_000_000,
         )))?
+        .arg(flag(alloc, "allow-reload", allow_reload))?
+        .arg(lines(alloc)?)?
         .arg(option(alloc, "max-body", "BYTES", max_body).value_parser(ValueParser::Unsigned(
             0,
             1_000_000_000,
@@ -49,6 +56,24 @@ fn option<'a>(alloc: Global, name: &'a str, value: &'a str, help: &'a str) -> Ar
         .help(help)
 }
 
+// Lines are answered alone: what is said of HTTP goes with it.
+fn lines<'a>(alloc: Global) -> Result<Arg<'a>, AllocError> {
+    let help = "Answers Cedar's own requests, a line of JSON each, and not HTTP";
+    flag(alloc, "lines", help)
+        .conflicts_with("url")?
+        .conflicts_with("page-size")?
+        .conflicts_with("allow-reload")?
+        .conflicts_with("max-body")
+}
+
+// An option without a value.
+fn flag<'a>(alloc: Global, name: &'a str, help: &'a str) -> Arg<'a> {
+    Arg::new(alloc, name)
+        .long(name)
+        .action(ArgAction::SetTrue)
+        .help(help)
+}
+
 // An option that names a file, and must be given.
 fn file<'a>(alloc: Global, name: &'a str, help: &'a str) -> Arg<'a> {
     option(alloc, name, "FILE", help).required(true)
@@ -61,6 +86,8 @@ pub(crate) fn options_of<'a>(matches: &ArgMatches<'a>) -> Options<'a> {
         entities: matches.get_str("entities").unwrap_or(""),
         url: matches.get_str("url"),
         page_size: matches.get_one::<usize>("page-size"),
+        is_lines: matches.get_flag("lines"),
+        allows_reload: matches.get_flag("allow-reload"),
         max_body: matches.get_one::<usize>("max-body"),
     }
 }

@@ -4,8 +4,8 @@
 //! - `main`: reads the words of the command line and the files, serves, and ends with a status: 0 where the connection is
 //!   done, `REFUSED` where there is none or it breaks, and `OUT_OF_MEMORY`.
 //! - `arguments`: the options. `files`: the files that they name. `serving`: `serve_texts`, the connection from the two
-//!   texts on. `metadata`: where the endpoints are. `reasons`, `refusal`, `visible`: why there is no connection, as it is
-//!   told on standard error.
+//!   texts on. `lines`: `answer_texts`, requests that come a line each. `metadata`: where the endpoints are. `reasons`,
+//!   `refusal`, `visible`: why there is no connection, as it is told on standard error.
 //!
 //! The promise, of `serve_texts`: what is sent is the answers that are due to the requests received, in their order,
 //! where decisions are those of the policies and the entities that the two texts say (`IsServedFrom` in
@@ -14,6 +14,7 @@
 
 mod arguments;
 mod files;
+mod lines;
 mod metadata;
 mod reasons;
 mod refusal;
@@ -23,13 +24,14 @@ mod visible;
 use arguments::{Options, command, options_of, text_of_help};
 use files::file_text;
 use http_server::{Config, State};
+use lines::answer_texts;
 use reasons::refuse_texts;
 use refusal::{Refusal, refuse_with_line};
 use serving::{Stopped, Texts, serve_texts};
 use std::alloc::Global;
 use std::env::Env;
 use std::hash::RandomState;
-use std::io::BufWriter;
+use std::io::{BufReader, BufWriter};
 use std::process::ExitCode;
 use std::random::RandomSource;
 use std::rt::Files;
@@ -123,15 +125,27 @@ fn serve_files<R: Files + Input + AllocGlobal + Print + RandomSource>(
         entities: entities.as_str(),
         url: options.url,
         page: options.page_size.unwrap_or(PAGE_SIZE),
+        allows_reload: options.allows_reload,
     };
-    match serve_host(rt, config(options.max_body), texts) {
-        Ok(State::Aborted) => Err(Refusal::Memory),
-        Ok(_) => Ok(()),
+    let ended = if options.is_lines {
+        answer_host(rt, texts)
+    } else {
+        serve_host(rt, config(options.max_body), texts)
+    };
+    match ended {
+        Ok(()) => Ok(()),
         Err(Stopped::NotStarted(reason)) => {
             Err(refuse_texts(rt.alloc(), &options, &texts, &reason))
         }
         Err(Stopped::Broken(error)) => Err(refuse_broken(rt.alloc(), &error)),
     }
+}
+
+// Answers lines of standard input, through buffers.
+fn answer_host<R: Input + AllocGlobal + Print>(rt: &R, texts: Texts<'_>) -> Result<(), Stopped> {
+    let mut reader = BufReader::new(rt.alloc(), rt.reader())?;
+    let mut writer = BufWriter::new(rt.alloc(), io::writer(rt))?;
+    answer_texts(rt.alloc(), texts, &mut reader, &mut writer)
 }
 
 // How long a body may be; all else is as `http_server` has it.
@@ -148,17 +162,21 @@ fn serve_host<R: Input + AllocGlobal + Print + RandomSource>(
     rt: &R,
     config: Config,
     texts: Texts<'_>,
-) -> Result<State, Stopped> {
+) -> Result<(), Stopped> {
     let keys = RandomState::new(rt)?;
     let mut writer = BufWriter::new(rt.alloc(), io::writer(rt))?;
-    serve_texts(
+    let ended = serve_texts(
         rt.alloc(),
         keys,
         config,
         texts,
         &mut rt.reader(),
         &mut writer,
-    )
+    )?;
+    match ended {
+        State::Aborted => Err(Stopped::Broken(io::ErrorKind::OutOfMemory.into())),
+        State::Open | State::Closing(_) | State::Upgraded => Ok(()),
+    }
 }
 
 #[cold]

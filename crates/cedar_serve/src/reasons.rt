@@ -4,11 +4,8 @@ use crate::refusal::{Refusal, refuse_with_line};
 use crate::serving::Texts;
 use cedar_json_reader::JsonError;
 use cedar_names::FirstRest;
-use cedar_service::NotStarted;
-use cedar_text_lexer::errors::ReadError;
-use cedar_text_lexer::show::locate;
+use cedar_service::{NotStarted, policies_reason};
 use cedar_text_parser::ParseError;
-use cedar_text_parser::show::message;
 use std::alloc::{AllocError, Global};
 
 /// The refusal of texts of which no engine is made.
@@ -37,52 +34,16 @@ pub(crate) fn refuse_texts(
     }
 }
 
-// The first error of the policies, and how many more there are.
+// `NAME: line L, column C: why`, of the first error of the policies, and how many more there are.
 fn policies_line(
     alloc: Global,
     name: &str,
     text: &str,
     errors: &FirstRest<ParseError>,
 ) -> Result<String, AllocError> {
-    let line = error_line(alloc, name, text, &errors.first)?;
-    let more = errors.rest.len();
-    if more == 0 {
-        return Ok(line);
-    }
-    let line = line.as_str();
-    format!(in alloc; "{line} (and {more} more)")
-}
-
-// `NAME: line L, column C: why`.
-fn error_line(
-    alloc: Global,
-    name: &str,
-    text: &str,
-    error: &ParseError,
-) -> Result<String, AllocError> {
-    let why = message(alloc, text, error)?;
-    let start = start_of(error).min(text.len());
-    let place = locate(text, start);
-    let (line, column, why) = (place.line, place.column, why.as_str());
-    format!(in alloc; "{name}: line {line}, column {column}: {why}")
-}
-
-// The byte from which on the text can't be read.
-fn start_of(error: &ParseError) -> usize {
-    match error {
-        ParseError::Read(error) => start_of_read(*error),
-        ParseError::UnknownFunction { start, .. } => *start,
-        ParseError::WrongStyle { start, .. } => *start,
-        ParseError::WrongNumberOfArguments { start, .. } => *start,
-    }
-}
-
-fn start_of_read(error: ReadError) -> usize {
-    match error {
-        ReadError::Memory => 0,
-        ReadError::Expected { start, .. } => start,
-        ReadError::TooDeep { start, .. } => start,
-    }
+    let reason = policies_reason(alloc, text, errors)?;
+    let reason = reason.as_str();
+    format!(in alloc; "{name}: {reason}")
 }
 
 // `NAME: $.path: why`; a text that is no JSON has no path.

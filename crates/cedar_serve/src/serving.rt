@@ -1,14 +1,17 @@
 //! One connection, from the texts of policies and entities on.
-ghost use Rattle.std.specs.Prelude.{◌≡◌, IfOk, IfErr, option_map, string_bytes};
+ghost use Rattle.std.specs.Prelude.{◌≡◌, IfOk, IfErr, OnOk, option_map, string_bytes};
 ghost use Rattle.std.specs.Io.KnownBytes.{Appends, Consumes};
-ghost use Rattle.cedar_service.specs.Started.{IsEngineOf, IsNotStarted};
-ghost use Rattle.cedar_serve.specs.Connections.{IsServedBy, IsServedFrom, IfServed, IfNotStarted};
+ghost use Rattle.http_server.specs.Connection.{config_of, history};
+ghost use Rattle.http_server.specs.History.{IsDone, new_history};
+ghost use Rattle.cedar_service.specs.Loaded.{both_texts, IsLoadedOf};
+ghost use Rattle.cedar_service.specs.Started.{IsNotStarted};
+ghost use Rattle.cedar_serve.specs.Connections.{IsServedBy, IsServedFrom, IfServed, IfUnstarted};
 ghost use Rattle.cedar_serve.specs.Metadata.{metadata_text};
 ghost use Rattle.cedar_serve.specs.declared.serving.Stopped.TheVariants as stopped;
 
 use crate::metadata::metadata_of;
 use cedar_endpoints::Decisions;
-use cedar_service::{Engine, NotStarted, serve_decisions};
+use cedar_service::{Loaded, NotStarted, serve_decisions};
 use http_server::{Config, Connection, State};
 use std::alloc::{AllocError, Global};
 use std::hash::RandomState;
@@ -26,6 +29,8 @@ pub struct Texts<'a> {
     pub url: Option<&'a str>,
     /// How many a page of a search has at most.
     pub page: usize,
+    /// Whether other policies and entities are taken in place of these.
+    pub allows_reload: bool,
 }
 
 /// Why a connection was not served to its end.
@@ -47,8 +52,8 @@ impl From<io::Error> for Stopped {
 
 /// Reads, answers and writes until the connection is done, and answers how it ended. What is written is the answers
 /// that are due to the requests read, in their order: where a request asks for a decision, that of the policies and the
-/// entities that the texts say. Where the texts are wrong nothing is read and nothing written. `keys` keeps strangers
-/// from choosing header fields that collide.
+/// entities that the texts say, or those that a request put in their place, if that is allowed. Where the texts are
+/// wrong nothing is read and nothing written. `keys` keeps strangers from choosing header fields that collide.
 pub fn serve_texts<R: Read, W: Write>(
     alloc: Global,
     keys: RandomState,
@@ -59,12 +64,12 @@ pub fn serve_texts<R: Read, W: Write>(
 ) -> Result<State, Stopped>
     ensures served { IfServed (λ h.
         IsServedFrom texts.entry.policies.now texts.entry.entities.now (option_map (λ u. u.now) texts.entry.url)
-        texts.entry.page config h
+        texts.entry.page texts.entry.allows_reload config h
         × Consumes (R.remaining reader.old) (R.remaining reader.new) h.received
         × Appends (W.contents writer.old) (W.contents writer.new) h.sent) result }
-    ensures refused { IfNotStarted (IsNotStarted texts.entry.policies.now texts.entry.entities.now) result }
-    ensures unread { IfNotStarted (λ e. reader.new ≡ reader.old) result }
-    ensures unwritten { IfNotStarted (λ e. writer.new ≡ writer.old) result }
+    ensures refused { IfUnstarted (IsNotStarted texts.entry.policies.now texts.entry.entities.now) result }
+    ensures unread { IfUnstarted (λ e. reader.new ≡ reader.old) result }
+    ensures unwritten { IfUnstarted (λ e. writer.new ≡ writer.old) result }
 {
     match service_of(alloc, texts) {
         Ok(service) => serve_with(alloc, keys, config, service, reader, writer),
@@ -73,40 +78,45 @@ pub fn serve_texts<R: Read, W: Write>(
 }
 
 // The service of the engine that the texts make.
-fn service_of(alloc: Global, texts: Texts<'_>) -> Result<Decisions<Engine>, NotStarted>
-    ensures engine { IfOk result (λ s. IsEngineOf texts.entry.policies.now texts.entry.entities.now s.decider) }
+fn service_of(alloc: Global, texts: Texts<'_>) -> Result<Decisions<Loaded>, NotStarted>
+    ensures engine { IfOk result (λ s.
+        IsLoadedOf (both_texts texts.entry.policies.now texts.entry.entities.now) s.decider) }
     ensures metadata { IfOk result (λ s.
         option_map string_bytes s.metadata ≡ option_map metadata_text (option_map (λ u. u.now) texts.entry.url)) }
     ensures page { IfOk result (λ s. s.page ≡ texts.entry.page) }
+    ensures reload { IfOk result (λ s. s.allows_reload ≡ texts.entry.allows_reload) }
     ensures refused { IfErr result (IsNotStarted texts.entry.policies.now texts.entry.entities.now) }
 {
-    match Engine::of_texts(alloc, texts.policies, texts.entities) {
-        Ok(engine) => with_metadata(alloc, engine, texts.url, texts.page),
+    match Loaded::of_texts(alloc, texts.policies, texts.entities) {
+        Ok(loaded) => with_metadata(alloc, loaded, texts.url, texts.page, texts.allows_reload),
         Err(reason) => Err(reason),
     }
 }
 
 fn with_metadata(
     alloc: Global,
-    engine: Engine,
+    loaded: Loaded,
     url: Option<&str>,
     page: usize,
-) -> Result<Decisions<Engine>, NotStarted>
-    ensures engine { IfOk result (λ s. s.decider ≡ engine) }
+    allows_reload: bool,
+) -> Result<Decisions<Loaded>, NotStarted>
+    ensures engine { IfOk result (λ s. s.decider ≡ loaded) }
     ensures metadata { IfOk result (λ s.
         option_map string_bytes s.metadata ≡ option_map metadata_text (option_map (λ u. u.now) url.entry)) }
     ensures page { IfOk result (λ s. s.page ≡ page) }
+    ensures reload { IfOk result (λ s. s.allows_reload ≡ allows_reload) }
     ensures memory { IfErr result (λ e. e ≡ NotStarted.Memory) }
 {
     match metadata_of(alloc, url) {
         Ok(metadata) => Ok(Decisions {
             alloc,
-            decider: engine,
+            decider: loaded,
             metadata,
             page,
+            allows_reload,
         }),
         Err(AllocError) => {
-            drop(engine);
+            drop(loaded);
             Err(NotStarted::Memory)
         }
     }
@@ -116,18 +126,18 @@ fn serve_with<R: Read, W: Write>(
     alloc: Global,
     keys: RandomState,
     config: Config,
-    service: Decisions<Engine>,
+    service: Decisions<Loaded>,
     reader: &mut R,
     writer: &mut W,
 ) -> Result<State, Stopped>
     ensures served { IfServed (λ h. IsServedBy service config h
         × Consumes (R.remaining reader.old) (R.remaining reader.new) h.received
         × Appends (W.contents writer.old) (W.contents writer.new) h.sent) result }
-    ensures started { IfNotStarted (λ e. ⊥) result }
+    ensures started { IfUnstarted (λ e. ⊥) result }
 {
     let mut connection = Connection::new(alloc, keys, config);
     let mut service = service;
-    let ended = serve_decisions(&mut service, &mut connection, reader, writer);
+    let ended = serve_fresh(&mut service, &mut connection, reader, writer);
     let state = connection.state();
     drop(connection);
     drop(service);
@@ -135,4 +145,20 @@ fn serve_with<R: Read, W: Write>(
         Ok(()) => Ok(state),
         Err(error) => Err(Stopped::Broken(error)),
     }
+}
+
+// The same over a connection on which nothing came yet.
+fn serve_fresh<R: Read, W: Write>(
+    service: &mut Decisions<Loaded>,
+    connection: &mut Connection,
+    reader: &mut R,
+    writer: &mut W,
+) -> io::Result<()>
+    requires { history connection.now ≡ new_history }
+    ensures served { IsServedBy service.old (config_of connection.old) (history connection.new) }
+    ensures done { OnOk result (IsDone (history connection.new)) }
+    ensures read { Consumes (R.remaining reader.old) (R.remaining reader.new) (history connection.new).received }
+    ensures written { Appends (W.contents writer.old) (W.contents writer.new) (history connection.new).sent }
+{
+    serve_decisions(service, connection, reader, writer)
 }

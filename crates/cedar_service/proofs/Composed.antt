@@ -17,6 +17,12 @@ pub of_both : {A E : Type 0} (P Q R : A → Type 0) → ((a : A) → P a → Q a
 of_both P Q R f (Ok a) h k = f a h k
 of_both P Q R f (Err e) h k = tt
 
+-- and in three
+pub of_three : {A E : Type 0} (P Q R S : A → Type 0) → ((a : A) → P a → Q a → R a → S a) → (r : Result A E)
+    → IfOk r P → IfOk r Q → IfOk r R → IfOk r S
+of_three P Q R S f (Ok a) h i j = f a h i j
+of_three P Q R S f (Err e) h i j = tt
+
 -- and in four
 pub of_four : {A E : Type 0} (P Q R S T : A → Type 0) → ((a : A) → P a → Q a → R a → S a → T a) → (r : Result A E)
     → IfOk r P → IfOk r Q → IfOk r R → IfOk r S → IfOk r T

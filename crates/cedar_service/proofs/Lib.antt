@@ -12,3 +12,4 @@ mod Bare
 mod Named
 mod Due
 mod Started
+mod Untold

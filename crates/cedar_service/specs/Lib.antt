@@ -7,4 +7,6 @@ pub mod Versions
 pub mod Decided
 pub mod Searched
 pub mod Started
+pub mod Left
+pub mod Loaded
 pub mod Serving

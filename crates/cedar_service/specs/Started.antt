@@ -38,7 +38,7 @@ use Rattle.cedar_service.specs.declared.engine.NotStarted.TheVariants as failure
 use Rattle.cedar_service.specs.Standard.{standard_extensions, standard_calls, standard_knowledge}
 use Rattle.cedar_service.specs.Asked.{levels}
 use Rattle.cedar_service.specs.Faults.{IsOfJson}
-use Rattle.cedar_service.specs.Candidates.{AreStored}
+use Rattle.cedar_service.specs.Candidates.{AreCandidates}
 use Rattle.cedar_service.specs.Versions.{version_text}
 use Rattle.cedar_service.specs.Engines.{read_policies, policies_of, entities_of, candidates_of, version_of}
 use Rattle.cedar_service.specs.Decided.{setting_of, IsResponseTo}
@@ -65,8 +65,8 @@ pub record IsEngineWith (k : Knowledge) (X : world.Extensions) (calls : StoredCa
   pub low : AreAllNoHigher (with_scope levels) (read_policies e)
   -- the entities, each with all its ancestors, are those that the text says
   pub store_is : IsStoreSaid X calls entities (entities_of e)
-  -- a search goes over all of them, and its pages are of the version of these texts
-  pub candidates_are : AreStored (entities_of e) (candidates_of e)
+  -- a search goes over all of them and the actions that scopes name, and its pages are of the version of these texts
+  pub candidates_are : AreCandidates (policies_of e) (entities_of e) (candidates_of e)
   pub version_is : version_of e ≡ version_text policies entities
 
 -- where nothing is unknown: decision, reasons and errors are exactly those that the policies have by what they mean

@@ -43,7 +43,8 @@ pub(crate) fn context_of(
     }
 }
 
-fn context_in(
+/// The same of the JSON that is given.
+pub(crate) fn context_in(
     alloc: Global,
     value: &Value<'_>,
     extensions: &Extensions<'_>,

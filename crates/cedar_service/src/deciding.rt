@@ -6,37 +6,61 @@ ghost use Rattle.cedar_service.specs.Asked.{has_known_context};
 ghost use Rattle.cedar_service.specs.Decided.{IsDecided, IsDecidedWith, IsAuthorized, IsAuthorizedWith};
 ghost use Rattle.cedar_service.specs.Decided.{IsAnswered, IsRefusalOf};
 ghost use Rattle.cedar_service.specs.Engines.{version_of, candidate_count};
+ghost use Rattle.cedar_service.specs.Left.{IsLeft};
+ghost use Rattle.cedar_service.specs.Loaded.{engine_of, Remakes, Refuses};
 ghost use Rattle.cedar_service.specs.Searched.{IsFound};
 
 use crate::engine::Engine;
 use crate::faults::{Refusal, refuse};
+use crate::leaving::leave;
+use crate::loaded::{Loaded, remade};
 use crate::requests::{has_known_context, request_of, request_said};
 use crate::responses::{outcome_of, response_to};
 use crate::searching::search;
-use cedar_endpoints::{Decider, Evaluation, Finding, Outcome, Search};
+use cedar_endpoints::{
+    Decider, Evaluation, Finding, NotRemade, Outcome, Partial, Remainder, Replaced, Search,
+};
 use cedar_extensions::Extensions;
 use cedar_requests::Request;
 use std::alloc::{AllocError, Global};
 
-/// An evaluation is decided as the policies decide its request, or refused with the path of what is wrong in it; and so
-/// is a text of Cedar's JSON.
-impl Decider for Engine {
-    ghost decides = { IsDecided };
+/// An evaluation is decided as the engine's policies decide its request, or refused with the path of what is wrong in
+/// it; and so is a text of Cedar's JSON. What takes its place has the engine of the texts, of which one is another.
+impl Decider for Loaded {
+    ghost decides = { λ l. IsDecided (engine_of l) };
 
-    ghost authorizes = { IsAuthorized };
+    ghost authorizes = { λ l. IsAuthorized (engine_of l) };
 
-    ghost finds = { IsFound };
+    ghost leaves = { λ l. IsLeft (engine_of l) };
 
-    ghost version = { version_of };
+    ghost finds = { λ l. IsFound (engine_of l) };
 
-    ghost count = { candidate_count };
+    ghost version = { λ l. version_of (engine_of l) };
+
+    ghost count = { λ l. candidate_count (engine_of l) };
+
+    ghost remakes = { Remakes };
+
+    ghost refuses = { Refuses };
 
     fn decide(&self, alloc: Global, question: &Evaluation<'_, '_>) -> Result<Outcome, AllocError> {
-        decide(self, alloc, question)
+        decide(&self.engine, alloc, question)
     }
 
     fn authorize(&self, alloc: Global, text: &str) -> Result<Outcome, AllocError> {
-        authorize(self, alloc, text)
+        authorize(&self.engine, alloc, text)
+    }
+
+    fn authorize_partially(
+        &self,
+        alloc: Global,
+        request: &Partial<'_, '_>,
+    ) -> Result<Remainder, AllocError> {
+        leave(&self.engine, alloc, request)
+    }
+
+    fn remake(&self, alloc: Global, replaced: Replaced, text: &str) -> Result<Loaded, NotRemade> {
+        remade(alloc, self, replaced, text)
     }
 
     fn search(
@@ -46,15 +70,15 @@ impl Decider for Engine {
         after: usize,
         most: usize,
     ) -> Result<Finding, AllocError> {
-        search(self, alloc, question, after, most)
+        search(&self.engine, alloc, question, after, most)
     }
 
     fn version_text(&self) -> &str {
-        self.version.as_str()
+        self.engine.version.as_str()
     }
 
     fn candidate_count(&self) -> usize {
-        self.candidates.len()
+        self.engine.candidates.len()
     }
 }
 

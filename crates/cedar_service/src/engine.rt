@@ -5,7 +5,6 @@ ghost use Rattle.cedar_functions.specs.Functions.{knowledge, these, signatures_o
 ghost use Rattle.cedar_text_parser.specs.PolicyHeights.{with_scope, AreAllNoHigher};
 ghost use Rattle.cedar_text_parser.specs.PolicyReading.{AreAllRead};
 
-use crate::candidates::candidates_of;
 use crate::contexts::LEVELS;
 use crate::versions::version_of;
 use cedar_extensions::Extensions;
@@ -14,6 +13,7 @@ use cedar_hierarchy::{ClosureError, close_hierarchy};
 use cedar_json_reader::{JsonError, entities_from_json_str};
 use cedar_layers::policies::{Entities, Entity, PolicySet};
 use cedar_names::{EntityUID, FirstRest};
+use cedar_scope_actions::candidates;
 use cedar_standard_functions::laws::functions_are_computed;
 use cedar_text_lexer::errors::ReadError;
 use cedar_text_parser::policy_laws::known_calls_of_policies;
@@ -75,7 +75,7 @@ impl Engine {
 }
 
 ghost use Rattle.cedar_service.specs.Asked.{levels};
-ghost use Rattle.cedar_service.specs.Candidates.{AreStored};
+ghost use Rattle.cedar_service.specs.Candidates.{AreCandidates};
 ghost use Rattle.cedar_service.specs.Engines.{candidates_of, version_of};
 ghost use Rattle.cedar_service.specs.Versions.{version_text};
 ghost use Rattle.cedar_service.specs.Started.{IsEngineWith, IsFailure, IsStoreSaid, IsClosedStore};
@@ -109,7 +109,7 @@ fn with_store(
     ensures policies { IfOk result (λ e. e.policies ≡ parsed) }
     ensures entities { IfOk result (λ e.
         IsStoreSaid (extensions_view extensions.now) (calls_of extensions.now) entities.now e.entities) }
-    ensures candidates { IfOk result (λ e. AreStored e.entities (candidates_of e)) }
+    ensures candidates { IfOk result (λ e. AreCandidates e.policies.policies e.entities (candidates_of e)) }
     ensures version { IfOk result (λ e. version_of e ≡ version_text policies.now entities.now) }
     ensures refused { IfErr result
         (IsStoreFailure (extensions_view extensions.now) (calls_of extensions.now) entities.now) }
@@ -133,12 +133,12 @@ fn with_candidates(
 ) -> Result<Engine, NotStarted>
     ensures policies { IfOk result (λ e. e.policies ≡ parsed) }
     ensures entities { IfOk result (λ e. e.entities ≡ store) }
-    ensures candidates { IfOk result (λ e. AreStored e.entities (candidates_of e)) }
+    ensures candidates { IfOk result (λ e. AreCandidates e.policies.policies e.entities (candidates_of e)) }
     ensures version { IfOk result (λ e. version_of e ≡ version_text policies.now entities.now) }
     ensures memory { IfErr result (λ f. f ≡ NotStarted.Memory) }
 {
-    match candidates_of(alloc, &store) {
-        Ok(candidates) => with_version(alloc, policies, parsed, entities, store, candidates),
+    match candidates(alloc, &parsed.policies, &store) {
+        Ok(sought) => with_version(alloc, policies, parsed, entities, store, sought),
         Err(AllocError) => {
             drop(parsed);
             drop(store);

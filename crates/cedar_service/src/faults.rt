@@ -54,6 +54,17 @@ pub(crate) fn refuse_json(alloc: Global, path: &str, error: &JsonError) -> Refus
     }
 }
 
+/// The refusal of what stands at this path, for the JSON reader's own reason.
+#[cold]
+pub(crate) fn refuse_reason(alloc: Global, path: &str, reason: RefusalReason) -> Refusal
+    ensures { IsToldAs (IsFaultBelow path.now) result }
+{
+    match reason_fault(alloc, path, "", reason) {
+        Ok(text) => Refusal::Told(text),
+        Err(AllocError) => Refusal::Memory,
+    }
+}
+
 /// The refusal of what stands at this path and does not evaluate.
 #[cold]
 pub(crate) fn refuse_evaluation(alloc: Global, path: &str, error: &EvaluationError) -> Refusal
@@ -87,8 +98,19 @@ fn refused_fault(
     ensures { IfOk result (λ s. IsFaultBelow path.now (string_bytes s)) }
 {
     let part = format!(in alloc; "{part}")?;
+    reason_fault(alloc, path, steps_of(part.as_str()), reason)
+}
+
+fn reason_fault(
+    alloc: Global,
+    path: &str,
+    steps: &str,
+    reason: RefusalReason,
+) -> Result<String, AllocError>
+    ensures { IfOk result (λ s. IsFaultBelow path.now (string_bytes s)) }
+{
     let reason = format!(in alloc; "{reason}")?;
-    fault_below(alloc, path, steps_of(part.as_str()), reason.as_str())
+    fault_below(alloc, path, steps, reason.as_str())
 }
 
 fn failed_fault(

@@ -4,8 +4,10 @@
 //! - `engine`: `Engine`, and why none is made of two texts. `deciding`: what an engine answers, as `cedar_endpoints`
 //!   asks it.
 //! - `requests`, `names`, `contexts`: the request that is asked. `responses`: the decision, and its response as JSON.
-//! - `searching`: what a search finds. `candidates`: the entities that it goes over. `opened`: the request in which a part
-//!   is searched for. `found`: what is found, as JSON. `versions`: the version of what is decided and found.
+//! - `searching`: what a search finds. `opened`: the request in which a part is searched for. `found`: what is found, as
+//!   JSON. `versions`: the version of what is decided and found.
+//! - `partials`, `leaving`: the request of which parts may be unknown, and what is left of the policies for it.
+//! - `loaded`: an engine with its texts, of which one can be replaced. `reasons`: what is wrong with policies.
 //! - `faults`: why there is no decision. `serving`: one connection.
 //!
 //! The promise: an engine has the policies and the entities that its texts say (`IsEngineOf` in `specs/Started`), or
@@ -14,18 +16,21 @@
 //! `IsAuthorized` in `specs/Decided`, over `IsResponseTo`), of the very request that is asked (`IsAsked`, `IsSaid` in
 //! `specs/Asked`). What it finds is the page of those candidates with which the request is allowed (`IsFound` in
 //! `specs/Searched`, over `cedar_search`). All else is a refusal with the path of what is wrong, and no decision. Over a
-//! connection each request is answered by what is due to it alone (`AreDue` in `specs/Serving`), and what is sent is
+//! connection each request is answered by what is due to it alone (`AreAnswered` in `specs/Serving`), and what is sent is
 //! these answers.
 #![tactic(auto)]
 
-mod candidates;
 mod contexts;
 mod deciding;
 mod engine;
 mod faults;
 mod found;
+mod leaving;
+mod loaded;
 mod names;
 mod opened;
+mod partials;
+mod reasons;
 mod requests;
 mod responses;
 mod searching;
@@ -33,4 +38,6 @@ mod serving;
 mod versions;
 
 pub use engine::{Engine, NotStarted};
+pub use loaded::Loaded;
+pub use reasons::policies_reason;
 pub use serving::serve_decisions;

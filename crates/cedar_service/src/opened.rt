@@ -29,7 +29,8 @@ fn entry_of(part: Part, request: &Request) -> Result<EntityUIDEntry, AllocError>
     }
 }
 
-fn type_alone(entry: &EntityUIDEntry) -> Result<EntityUIDEntry, AllocError>
+/// Of the entry the type alone.
+pub(crate) fn type_alone(entry: &EntityUIDEntry) -> Result<EntityUIDEntry, AllocError>
     ensures { IfOk result (λ e. entry_view e ≡ type_alone (entry_view entry.now)) }
 {
     match entry.get_type() {

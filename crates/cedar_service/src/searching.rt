@@ -98,7 +98,8 @@ fn sample_of<'v, 'a>(question: &Search<'v, 'a>) -> Evaluation<'v, 'a>
     }
 }
 
-fn sample_named(type_name: &str) -> Named<'_>
+/// The entity of this type with an empty id.
+pub(crate) fn sample_named(type_name: &str) -> Named<'_>
     ensures { named_view result ≡ sample_named type_name.now }
 {
     Named { type_name, id: "" }

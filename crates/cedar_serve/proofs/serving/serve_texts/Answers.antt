@@ -1,6 +1,7 @@
 use Rattle.http_server.specs.History.{History}
 use Rattle.std.proofs.Common.{◌≡◌, option_map}
 use Rattle.std.specs.Io.KnownBytes.{Appends, Consumes}
+use Rattle.cedar_service.specs.Loaded.{both_texts}
 use Rattle.cedar_serve.specs.Connections.{IsServedBy, IsServedFrom}
 use Rattle.cedar_serve.proofs.Ended.{if_served}
 use Rattle.cedar_serve.proofs.serving.serve_texts.Goals as goal
@@ -12,17 +13,20 @@ returns-in-Ok-clause-served g c =
     × Consumes (g.R.Read.remaining c.args.reader.now) (g.R.Read.remaining c.serve_with.new.reader) h.received
     × Appends (g.W.Write.contents c.args.writer.now) (g.W.Write.contents c.serve_with.new.writer) h.sent)
     (λ h. IsServedFrom c.args.texts.policies.now c.args.texts.entities.now
-    (option_map (λ u. u.now) c.args.texts.url) c.args.texts.page c.args.config h
+    (option_map (λ u. u.now) c.args.texts.url) c.args.texts.page c.args.texts.allows_reload c.args.config h
     × Consumes (g.R.Read.remaining c.args.reader.now) (g.R.Read.remaining c.serve_with.new.reader) h.received
     × Appends (g.W.Write.contents c.args.writer.now) (g.W.Write.contents c.serve_with.new.writer) h.sent)
     c.serve_with.result
     (λ (h : History). λ (served, read, written). (
       record {
         service = c.in-Ok.service;
-        engine = c.in-Ok.ensures.engine;
+        last = served.last;
         metadata = c.in-Ok.ensures.metadata;
         page_is = c.in-Ok.ensures.page;
-        served = served;
+        reload_is = c.in-Ok.ensures.reload;
+        answered = served.answered (both_texts c.args.texts.policies.now c.args.texts.entities.now)
+            c.in-Ok.ensures.engine;
+        sent = served.sent;
       },
       read,
       written,

@@ -4,9 +4,9 @@ use Rattle.cedar_functions.specs.Functions.{these, signatures_of}
 use Rattle.cedar_text_parser.specs.PolicyHeights.{with_scope, AreAllNoHigher}
 use Rattle.cedar_text_parser.specs.PolicyReading.{AreAllRead}
 use Rattle.cedar_service.specs.Asked.{levels}
-use Rattle.cedar_service.specs.Candidates.{AreStored}
+use Rattle.cedar_service.specs.Candidates.{AreCandidates}
 use Rattle.cedar_service.specs.Versions.{version_text}
-use Rattle.cedar_service.specs.Engines.{read_policies, entities_of, candidates_of, version_of}
+use Rattle.cedar_service.specs.Engines.{read_policies, policies_of, entities_of, candidates_of, version_of}
 use Rattle.cedar_service.specs.Started.{IsEngineWith, IsStoreSaid, IsStoreFailure, IsFailure}
 use Rattle.cedar_service.proofs.Composed.{of_four, of_err}
 use Rattle.cedar_service.proofs.Started.{store_failure, policies_failure}
@@ -19,7 +19,7 @@ returns-in-Ok-clause-engine g c =
     let parsed = c.in-Ok.parsed in
     of_four (λ e. read_policies e ≡ parsed)
     (λ e. IsStoreSaid (extensions_view x) (calls_of x) c.args.entities.now (entities_of e))
-    (λ e. AreStored (entities_of e) (candidates_of e))
+    (λ e. AreCandidates (policies_of e) (entities_of e) (candidates_of e))
     (λ e. version_of e ≡ version_text c.args.policies.now c.args.entities.now)
     (IsEngineWith k (extensions_view x) (calls_of x) c.args.policies.now c.args.entities.now)
     (λ e same store candidates version. record {

@@ -1,0 +1,11 @@
+use Rattle.std.proofs.Common.{codes}
+use Rattle.cedar_endpoints.specs.Partials.{partial_view}
+use Rattle.cedar_service.specs.Left.{IsNoEntry, AreUnentered, wrong_resource}
+use Rattle.cedar_service.proofs.Composed.{because}
+use Rattle.cedar_service.proofs.partials.with_resource.Goals as goal
+
+pub returns-in-Err-clause-refused : goal.returns-in-Err-clause-refused
+returns-in-Err-clause-refused c =
+    let q = partial_view c.args.question.now in
+    because (IsNoEntry q.resource (codes "$.resource")) (AreUnentered q) (λ t h. wrong_resource h) c.in-Err.refusal
+    c.in-Err.ensures.refused

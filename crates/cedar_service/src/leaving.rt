@@ -1,0 +1,99 @@
+//! What is left of an engine's policies.
+ghost use Rattle.std.specs.Prelude.{◌≡◌, IfOk, string_bytes};
+ghost use Rattle.cedar_extensions.specs.Extensions.{extensions_view, calls_of};
+ghost use Rattle.cedar_endpoints.specs.Partials.{partial_view};
+ghost use Rattle.cedar_service.specs.Engines.{policies_of, entities_of};
+ghost use Rattle.cedar_service.specs.Left.{IsLeft, IsLeftWith, IsAskedPartly, IsPartialTo, IsPartialText};
+ghost use Rattle.cedar_service.specs.Left.{IsRemainderOf, IsUntoldFor, LeavesFor};
+
+use crate::engine::Engine;
+use crate::faults::Refusal;
+use crate::partials::partial_request;
+use cedar_authorizer::authorizer::{Authorizer, PartialResponse};
+use cedar_endpoints::{Partial, Remainder};
+use cedar_extensions::Extensions;
+use cedar_json_writer::partial_response_to_json;
+use cedar_requests::Request;
+use std::alloc::{AllocError, Global};
+
+/// What is left of the engine's policies for the request, over its entities; or why nothing is told.
+pub(crate) fn leave(
+    engine: &Engine,
+    alloc: Global,
+    question: &Partial<'_, '_>,
+) -> Result<Remainder, AllocError>
+    ensures { IfOk result (IsLeft engine.now (partial_view question.now)) }
+{
+    let extensions = Extensions::all_available();
+    leave_with(engine, alloc, question, &extensions)
+}
+
+fn leave_with(
+    engine: &Engine,
+    alloc: Global,
+    question: &Partial<'_, '_>,
+    extensions: &Extensions<'_>,
+) -> Result<Remainder, AllocError>
+    ensures { IfOk result (IsLeftWith (extensions_view extensions.now) (calls_of extensions.now) engine.now
+        (partial_view question.now)) }
+{
+    match partial_request(alloc, question, extensions) {
+        Ok(request) => remainder(engine, alloc, request, extensions),
+        Err(refusal) => untold(refusal),
+    }
+}
+
+fn remainder(
+    engine: &Engine,
+    alloc: Global,
+    request: Request,
+    extensions: &Extensions<'_>,
+) -> Result<Remainder, AllocError>
+    ensures { IfOk result (LeavesFor (extensions_view extensions.now) (calls_of extensions.now) engine.now request) }
+{
+    let response = partial_response(alloc, engine, request, extensions)?;
+    let remainder = remainder_of(alloc, &response);
+    drop(response);
+    remainder
+}
+
+// What the engine's policies leave for the request. Conditions and what is left of them are as high as they are.
+fn partial_response(
+    alloc: Global,
+    engine: &Engine,
+    request: Request,
+    extensions: &Extensions<'_>,
+) -> Result<PartialResponse, AllocError>
+    ensures { IfOk result (IsPartialTo (extensions_view extensions.now) (calls_of extensions.now)
+        (policies_of engine.now) (entities_of engine.now) request) }
+{
+    let authorizer = Authorizer::new(extensions, usize::MAX);
+    authorizer.is_authorized_core(alloc, request, &engine.policies.policies, &engine.entities)
+}
+
+fn remainder_of(alloc: Global, response: &PartialResponse) -> Result<Remainder, AllocError>
+    ensures { IfOk result (IsRemainderOf response.now) }
+{
+    let response = response_text(alloc, response)?;
+    Ok(Remainder::Told { response })
+}
+
+fn response_text(alloc: Global, response: &PartialResponse) -> Result<String, AllocError>
+    ensures { IfOk result (λ s. IsPartialText response.now (string_bytes s)) }
+{
+    let json = partial_response_to_json(alloc, response)?;
+    let text = json.to_text(alloc);
+    drop(json);
+    text
+}
+
+// Nothing is told, for what is wrong.
+#[cold]
+fn untold(refusal: Refusal) -> Result<Remainder, AllocError>
+    ensures { IfOk result (IsUntoldFor refusal) }
+{
+    match refusal {
+        Refusal::Told(error) => Ok(Remainder::Refused { error }),
+        Refusal::Memory => Err(AllocError),
+    }
+}
