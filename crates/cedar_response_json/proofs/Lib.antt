@@ -1,0 +1,5 @@
+pub mod Listed
+pub mod Parts
+pub mod Rows
+pub mod Told
+pub mod Six
