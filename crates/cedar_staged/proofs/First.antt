@@ -1,8 +1,8 @@
 -- What the type keeps when it is begun, and what stands of its first response.
-use Rattle.std.specs.Prelude.{◌≡◌, List, [], map, Result, Ok, Err, IfOk}
+use Rattle.std.specs.Prelude.{◌≡◌, List, [], Result, Ok, Err, IfOk}
 use Rattle.std.proofs.Common.{sym, subst}
 use Rattle.std.specs.Borrow.{Bor}
-use Rattle.cedar_model.specs.Settings.{Store, Setting, Resolution}
+use Rattle.cedar_model.specs.Settings.{Store, Resolution}
 use Rattle.cedar_model.specs.Policies.{Policy}
 use Rattle.cedar_model.specs.Configurations.{Configuration}
 use Rattle.cedar_layers.specs.declared.policies.entities.Entities.{Entities}
@@ -11,7 +11,6 @@ use Rattle.cedar_requests.specs.Requests.{request_view}
 use Rattle.cedar_authorizer.specs.declared.responses.partial_response.PartialResponse.{PartialResponse}
 use Rattle.cedar_authorizer.specs.ByHand.{ChainGives}
 use Rattle.cedar_authorizer.specs.Headline.{steps_view}
-use Rattle.cedar_authorizer.specs.Running.{IsRun}
 use Rattle.cedar_authorizer.specs.Steps.{ValuesByName}
 
 -- no step yet, and a copy of the request

@@ -1,5 +1,5 @@
 -- A step from a response that says the same.
-use Rattle.std.specs.Prelude.{◌≡◌, Result, Ok, Err}
+use Rattle.std.specs.Prelude.{Result, Ok, Err}
 use Rattle.cedar_model.specs.Settings.{Store}
 use Rattle.cedar_model.specs.Configurations.{Configuration}
 use Rattle.cedar_model.specs.Refusals.{Refusal}
