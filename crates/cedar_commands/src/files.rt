@@ -13,9 +13,10 @@ const INPUT: &str = "-";
 const INPUT_NAME: &str = "standard input";
 
 // The options that name one file.
-const FILE_OPTIONS: [&str; 7] = [
+const FILE_OPTIONS: [&str; 8] = [
     "policies",
     "with",
+    "tests",
     "context",
     "request-json",
     "requests",
@@ -42,6 +43,7 @@ struct StepFiles {
 pub(crate) struct Texts {
     policies: Option<File>,
     with: Option<File>,
+    tests: Option<File>,
     context: Option<File>,
     request: Option<File>,
     requests: Option<File>,
@@ -60,6 +62,7 @@ impl Texts {
         refuse_second_input(rt.alloc(), matches)?;
         let policies = policies_of(rt, matches)?;
         let with = text_of(rt, matches.get_str("with"))?;
+        let tests = text_of(rt, matches.get_str("tests"))?;
         let context = text_of(rt, matches.get_str("context"))?;
         let request = text_of(rt, matches.get_str("request-json"))?;
         let requests = text_of(rt, matches.get_str("requests"))?;
@@ -69,6 +72,7 @@ impl Texts {
         Ok(Texts {
             policies,
             with,
+            tests,
             context,
             request,
             requests,
@@ -86,6 +90,11 @@ impl Texts {
     /// The new policies: of no file, if none is named.
     pub(crate) fn new_policies(&self) -> Source<'_> {
         source_or(&self.with, "--with")
+    }
+
+    /// The tests: of no file, if none is named.
+    pub(crate) fn tests(&self) -> Source<'_> {
+        source_or(&self.tests, "FILE")
     }
 
     /// The context, if its file is named.

@@ -8,6 +8,7 @@ use cedar_cli::{
 };
 use cedar_cli_explain::authorize_and_explain_as_json;
 use cedar_cli_sql::plan_as_sql;
+use cedar_cli_tests::run_tests;
 use cedar_policy_core::ast::{Extension, ExtensionFunction, Name};
 use cedar_policy_core::extensions::Extensions;
 use cedar_regression::compare_policies;
@@ -107,6 +108,7 @@ fn run_with(
     let asked = read_question(matches, texts);
     match name {
         "diff" => compare(alloc, &asked, matches, texts),
+        "run-tests" => run_tests(alloc, policies, &asked, texts.tests(), way(matches)),
         "authorize" => decide(alloc, &asked, matches, texts),
         "partially-authorize" => match texts.columns() {
             Some(columns) => plan_with_unknown(alloc, policies, &asked, columns, matches),

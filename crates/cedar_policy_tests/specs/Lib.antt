@@ -1,0 +1,4 @@
+pub mod Texts
+pub mod Said
+pub mod Views
+pub mod Expected
