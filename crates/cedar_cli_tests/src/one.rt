@@ -1,16 +1,24 @@
 //! One test.
+ghost use Rattle.std.specs.Prelude.{◌≡◌, IfOk, option_map, string_bytes};
+ghost use Rattle.cedar_extensions.specs.Extensions.{extensions_view, calls_of};
+ghost use Rattle.cedar_expectations.specs.Answers.{answer_view};
+ghost use Rattle.cedar_policy_tests.specs.Failures.{failure};
+ghost use Rattle.cedar_policy_tests.specs.Views.{test_view};
+ghost use Rattle.cedar_policy_tests.specs.Written.{IsWritable};
+ghost use Rattle.cedar_cli.specs.Batch.{IsTold};
+ghost use Rattle.cedar_cli.specs.Questions.{IsGivenStore};
+ghost use Rattle.cedar_cli_tests.specs.Tested.{verdict_of};
+ghost use Rattle.cedar_cli_tests.specs.Results.{verdict_view, IsVerdictBy, IsRefusalTold};
+ghost use Rattle.cedar_cli_tests.specs.Texts.{AreTexts};
 
-use crate::texts::text_of;
-use cedar_cli::{Asked, Refusal, Source, Way, given_store};
-use cedar_expectations::{Answer, Comparison, compare};
-use cedar_json_lines::with_member;
-use cedar_policy_core::ast::PolicySet;
+use crate::answers::{Tested, answer_to};
+use crate::results::{Verdict, failed_with, verdict_of};
+use crate::texts::{TestTexts, texts_of};
+use cedar_cli::{Asked, Refusal, Source};
+use cedar_expectations::Answer;
 use cedar_policy_core::entities::Entities;
-use cedar_policy_core::entities::json::text_to_json;
 use cedar_policy_core::extensions::Extensions;
-use cedar_policy_tests::{PolicyTest, expected_answer};
-use cedar_regression::{answer_of, refused};
-use json::Value;
+use cedar_policy_tests::{PolicyTest, failure_to_json, refusal_to_json};
 use std::alloc::{AllocError, Global};
 
 // What the requests and the entities of tests are called.
@@ -18,158 +26,124 @@ const REQUEST_NAME: &str = "the request";
 
 const ENTITIES_NAME: &str = "the entities";
 
-/// The policies that are tested, the entities of tests that have none of their own, and in which way they are asked.
-#[derive(Clone, Copy)]
-pub(crate) struct Testing<'p> {
-    pub(crate) policies: &'p PolicySet,
-    pub(crate) entities: &'p Entities,
-    pub(crate) way: Way,
-}
-
-/// What is printed of the test, which has this number.
+/// What is printed of the test, which has this number: it is asked over its own entities, or over the store that is given.
 pub(crate) fn run_test(
     alloc: Global,
-    testing: Testing<'_>,
+    tested: Tested<'_>,
+    store: &Entities,
     asked: &Asked<'_, '_>,
     test: PolicyTest<'_, '_>,
     number: usize,
     extensions: &Extensions<'_>,
-) -> Result<Comparison, AllocError> {
-    let request = text_of(alloc, test.request)?;
-    let ran = run_asked(
-        alloc,
-        testing,
-        asked,
-        test,
-        request.as_str(),
-        number,
-        extensions,
+) -> Result<Verdict, AllocError>
+    requires given { IsGivenStore (extensions_view extensions.now) (calls_of extensions.now) asked.now store.now }
+    requires writable { IsWritable (test_view test.entry) }
+    ensures { IfOk result (λ v. IsVerdictBy (extensions_view extensions.now) (calls_of extensions.now)
+        tested.entry.policies.now tested.entry.way asked.now number (test_view test.entry) (verdict_view v)) }
+{
+    let texts = texts_of(alloc, test)?;
+    let verdict = run_texts(
+        alloc, tested, store, asked, test, &texts, number, extensions,
     );
-    drop(request);
-    ran
+    drop(texts);
+    verdict
 }
 
-fn run_asked(
+fn run_texts(
     alloc: Global,
-    testing: Testing<'_>,
+    tested: Tested<'_>,
+    store: &Entities,
     asked: &Asked<'_, '_>,
     test: PolicyTest<'_, '_>,
-    request: &str,
+    texts: &TestTexts,
     number: usize,
     extensions: &Extensions<'_>,
-) -> Result<Comparison, AllocError> {
-    let source = Source {
-        name: REQUEST_NAME,
-        text: request,
-    };
-    let asked = Asked {
-        request: Some(source),
-        ..*asked
-    };
-    let answer = match test.entities {
-        Some(entities) => answer_over(alloc, testing, &asked, entities, extensions),
-        None => answer_of(
-            alloc,
-            testing.policies,
-            testing.entities,
-            testing.way,
-            &asked,
-            extensions,
-        ),
-    };
-    match answer {
+) -> Result<Verdict, AllocError>
+    requires given { IsGivenStore (extensions_view extensions.now) (calls_of extensions.now) asked.now store.now }
+    requires texts { AreTexts (test_view test.entry) texts.now }
+    ensures { IfOk result (λ v. IsVerdictBy (extensions_view extensions.now) (calls_of extensions.now)
+        tested.entry.policies.now tested.entry.way asked.now number (test_view test.entry) (verdict_view v)) }
+{
+    let request = source_of(REQUEST_NAME, &texts.request);
+    let entities = source_if(ENTITIES_NAME, &texts.entities);
+    match answer_to(alloc, tested, store, asked, request, entities, extensions) {
         Ok(found) => judge(alloc, test, found, number),
-        Err(refusal) => named(alloc, refused(alloc, refusal, number)?, test.name),
+        Err(refusal) => refuse(alloc, test, refusal, number),
     }
 }
 
-// What the policies answer over the entities of the test.
-fn answer_over(
-    alloc: Global,
-    testing: Testing<'_>,
-    asked: &Asked<'_, '_>,
-    entities: &Value<'_>,
-    extensions: &Extensions<'_>,
-) -> Result<Answer, Refusal> {
-    let text = text_of(alloc, entities)?;
-    let answer = answer_over_text(alloc, testing, asked, text.as_str(), extensions);
-    drop(text);
-    answer
+fn source_of<'t>(name: &'t str, text: &'t String) -> Source<'t>
+    ensures { result.text.now ≡ string_bytes text.now }
+{
+    Source {
+        name,
+        text: text.as_str(),
+    }
 }
 
-fn answer_over_text(
-    alloc: Global,
-    testing: Testing<'_>,
-    asked: &Asked<'_, '_>,
-    entities: &str,
-    extensions: &Extensions<'_>,
-) -> Result<Answer, Refusal> {
-    let source = Source {
-        name: ENTITIES_NAME,
-        text: entities,
-    };
-    let asked = Asked {
-        entities: Some(source),
-        ..*asked
-    };
-    let mut told = String::new(alloc);
-    let store = given_store(alloc, &asked, extensions, &mut told)?;
-    let answer = answer_of(
-        alloc,
-        testing.policies,
-        &store.entities,
-        testing.way,
-        &asked,
-        extensions,
-    );
-    drop((store, told));
-    answer
+fn source_if<'t>(name: &'t str, text: &'t Option<String>) -> Option<Source<'t>>
+    ensures { option_map (λ s. s.text.now) result ≡ option_map string_bytes text.now }
+{
+    match text {
+        Some(text) => Some(source_of(name, text)),
+        None => None,
+    }
 }
 
-// What differs between what the test expects and what was found.
+// What the test fails in, where this is found.
 fn judge(
     alloc: Global,
     test: PolicyTest<'_, '_>,
     found: Answer,
     number: usize,
-) -> Result<Comparison, AllocError>
+) -> Result<Verdict, AllocError>
+    ensures { IfOk result
+        (λ v. verdict_view v ≡ verdict_of (failure number (test_view test.entry) (answer_view found))) }
 {
-    let compared = compare_expected(alloc, test, &found, number);
+    let verdict = judge_found(alloc, test, &found, number);
     drop(found);
-    named(alloc, compared?, test.name)
+    verdict
 }
 
-fn compare_expected(
+fn judge_found(
     alloc: Global,
     test: PolicyTest<'_, '_>,
     found: &Answer,
     number: usize,
-) -> Result<Comparison, AllocError> {
-    let expected = expected_answer(alloc, test, found)?;
-    let compared = compare(alloc, number, &expected, found);
-    drop(expected);
-    compared
+) -> Result<Verdict, AllocError>
+    ensures { IfOk result
+        (λ v. verdict_view v ≡ verdict_of (failure number (test_view test.entry) (answer_view found.now))) }
+{
+    let told = failure_to_json(alloc, number, test, found)?;
+    let verdict = verdict_of(alloc, told)?;
+    Ok(verdict)
 }
 
-// The same, with the name of the test, where something is printed.
-fn named(alloc: Global, one: Comparison, name: &str) -> Result<Comparison, AllocError> {
-    let Comparison {
-        line,
-        is_refused,
-        is_different,
-    } = one;
-    let named = name_line(alloc, line.as_str(), name);
-    drop(line);
-    Ok(Comparison {
-        line: named?,
-        is_refused,
-        is_different,
-    })
+// Why the test can't be asked.
+fn refuse(
+    alloc: Global,
+    test: PolicyTest<'_, '_>,
+    refusal: Refusal,
+    number: usize,
+) -> Result<Verdict, AllocError>
+    ensures told { IfOk result (λ v. IsTold refusal) }
+    ensures verdict { IfOk result (λ v. IsRefusalTold number (test_view test.entry).name (verdict_view v)) }
+{
+    match refusal {
+        Refusal::Told(lines) => refuse_for(alloc, test.name, &lines, number),
+        Refusal::Memory => Err(AllocError),
+    }
 }
 
-fn name_line(alloc: Global, line: &str, name: &str) -> Result<String, AllocError> {
-    let name = text_to_json(alloc, name)?;
-    let named = with_member(alloc, line, "name", &name);
-    drop(name);
-    named
+fn refuse_for(
+    alloc: Global,
+    name: &str,
+    lines: &str,
+    number: usize,
+) -> Result<Verdict, AllocError>
+    ensures { IfOk result (λ v. IsRefusalTold number name.now (verdict_view v)) }
+{
+    let told = refusal_to_json(alloc, number, name, lines.trim_end())?;
+    let verdict = failed_with(alloc, told)?;
+    Ok(verdict)
 }

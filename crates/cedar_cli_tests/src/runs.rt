@@ -1,78 +1,130 @@
 //! Tests of policies, one after another.
-use crate::one::{Testing, run_test};
+ghost use Rattle.std.specs.Prelude.{◌≡◌, None, map, IfOk, IfErr};
+ghost use Rattle.json.specs.Tree.{HasNumbers};
+ghost use Rattle.json.specs.Value.{value_view};
+ghost use Rattle.cedar_extensions.specs.Extensions.{extensions_view, calls_of};
+ghost use Rattle.cedar_policy_tests.specs.Said as specs;
+ghost use Rattle.cedar_policy_tests.specs.Texts.{IsUnread};
+ghost use Rattle.cedar_policy_tests.specs.Views.{test_view, tests_view};
+ghost use Rattle.cedar_policy_tests.specs.Written.{AreWritable};
+ghost use Rattle.cedar_cli.specs.Questions.{IsGivenStore};
+ghost use Rattle.cedar_cli.specs.Reasons.{IsToldFor};
+ghost use Rattle.cedar_cli_tests.specs.Tested.{IsTested, AreUntested, AreNoTests};
+ghost use Rattle.cedar_cli_tests.specs.Results.{AreResults, AreTestedBy, AreReadTestedBy, IsTextTestedBy};
+ghost use Rattle.cedar_cli_tests.specs.Results.{IsUntestedBy};
+
+use crate::answers::Tested;
+use crate::one::run_test;
+use crate::results::Results;
 use cedar_cli::{
     Asked, Printed, Refusal, Source, Way, given_store, read_over, refuse_with_line, tell_templates,
     unread_json,
 };
-use cedar_expectations::Comparison;
+use cedar_policy_core::ast::PolicySet;
+use cedar_policy_core::entities::Entities;
 use cedar_policy_core::entities::json::JsonError;
 use cedar_policy_core::extensions::Extensions;
 use cedar_policy_core::extensions::laws::functions_are_computed;
 use cedar_policy_core::parser::ParsedPolicies;
 use cedar_policy_core::parser::laws::known_calls_of_policies;
-use cedar_policy_tests::{TestsError, first_fault, items_in, parse_tests, test_in};
+use cedar_policy_tests::{PolicyTest, TestsError, fault_in, parse_tests, tests_in};
 use json::{Scratch, Value};
 use std::alloc::{AllocError, Global};
 
-/// The tests, an array in JSON, that the policies fail: in their order a line of JSON for each that they answer otherwise
-/// than it expects, or that can't be asked, and behind them one of how many pass and fail. A test is asked over its own
-/// entities, or over those that are given. The exit status is 1 where a test fails. Templates, which decide nothing, are
-/// told as warnings. Refused where policies or entities can't be read, and where an item of the array is no test.
+/// The tests, an array in JSON, that the policies fail: in their order a line of JSON for each to which they answer
+/// otherwise than it expects, with what differs, or that can't be asked, with the reason; and behind them one of how many
+/// pass and fail. A test is asked over its own entities, or over those that are given. The exit status is 1 where a test
+/// fails, and else 0. Templates, which decide nothing, are told as warnings. Refused where policies or entities can't be
+/// read, and where the text is no array of tests.
 pub fn run_tests(
     alloc: Global,
     policies: Source<'_>,
     asked: &Asked<'_, '_>,
     tests: Source<'_>,
     way: Way,
-) -> Result<Printed, Refusal> {
+) -> Result<Printed, Refusal>
+    ensures tested { IfOk result (IsTested policies.entry.text.now asked.now tests.entry.text.now way) }
+    ensures refused { IfErr result (IsToldFor
+        (AreUntested policies.entry.text.now asked.now tests.entry.text.now)) }
+{
     functions_are_computed();
     known_calls_of_policies();
     let extensions = Extensions::all_available();
     let parsed = read_over(alloc, policies, &extensions)?;
-    let printed = run_parsed(alloc, policies, &parsed, asked, tests, way, &extensions);
+    let warnings = template_warnings(alloc, policies, &parsed);
+    let tested = Tested {
+        policies: &parsed.policies,
+        way,
+    };
+    let printed = run_read(alloc, tested, asked, tests, &extensions, warnings);
     drop(parsed);
     printed
 }
 
-fn run_parsed(
+fn template_warnings(
     alloc: Global,
     policies: Source<'_>,
     parsed: &ParsedPolicies,
-    asked: &Asked<'_, '_>,
-    tests: Source<'_>,
-    way: Way,
-    extensions: &Extensions<'_>,
-) -> Result<Printed, Refusal> {
+) -> Result<String, AllocError> {
     let mut warnings = String::new(alloc);
     tell_templates(alloc, policies, &parsed.templates, &mut warnings)?;
+    Ok(warnings)
+}
+
+fn run_read(
+    alloc: Global,
+    tested: Tested<'_>,
+    asked: &Asked<'_, '_>,
+    tests: Source<'_>,
+    extensions: &Extensions<'_>,
+    warnings: Result<String, AllocError>,
+) -> Result<Printed, Refusal>
+    ensures tested { IfOk result (IsTextTestedBy (extensions_view extensions.now) (calls_of extensions.now)
+        tested.entry.policies.now tested.entry.way asked.now tests.entry.text.now) }
+    ensures refused { IfErr result (IsToldFor (IsUntestedBy (extensions_view extensions.now)
+        (calls_of extensions.now) asked.now tests.entry.text.now)) }
+{
+    let mut warnings = warnings?;
     let store = given_store(alloc, asked, extensions, &mut warnings)?;
-    let testing = Testing {
-        policies: &parsed.policies,
-        entities: &store.entities,
-        way,
-    };
-    let printed = run_text(alloc, testing, asked, tests, extensions, warnings);
+    let printed = run_text(
+        alloc,
+        tested,
+        &store.entities,
+        asked,
+        tests,
+        extensions,
+        warnings,
+    );
     drop(store);
     printed
 }
 
 fn run_text(
     alloc: Global,
-    testing: Testing<'_>,
+    tested: Tested<'_>,
+    store: &Entities,
     asked: &Asked<'_, '_>,
     tests: Source<'_>,
     extensions: &Extensions<'_>,
     warnings: String,
-) -> Result<Printed, Refusal> {
+) -> Result<Printed, Refusal>
+    requires { IsGivenStore (extensions_view extensions.now) (calls_of extensions.now) asked.now store.now }
+    ensures tested { IfOk result (IsTextTestedBy (extensions_view extensions.now) (calls_of extensions.now)
+        tested.entry.policies.now tested.entry.way asked.now tests.entry.text.now) }
+    ensures refused { IfErr result (IsToldFor (AreNoTests tests.entry.text.now)) }
+{
     let mut scratch = Scratch::new(alloc);
     match parse_tests(alloc, tests.text, &mut scratch) {
-        Ok(value) => run_value(alloc, testing, asked, tests, &value, extensions, warnings),
+        Ok(value) => run_value(alloc, tested, store, asked, tests, &value, extensions, warnings),
         Err(error) => Err(unread(alloc, tests, error)),
     }
 }
 
 #[cold]
-fn unread(alloc: Global, tests: Source<'_>, error: TestsError) -> Refusal {
+fn unread(alloc: Global, tests: Source<'_>, error: TestsError) -> Refusal
+    requires { IsUnread tests.entry.text.now error }
+    ensures { IsToldFor (AreNoTests tests.entry.text.now) result }
+{
     match error {
         TestsError::Syntax => unread_json(alloc, tests, JsonError::Syntax),
         TestsError::DuplicateKey => unread_json(alloc, tests, JsonError::DuplicateKey),
@@ -82,66 +134,78 @@ fn unread(alloc: Global, tests: Source<'_>, error: TestsError) -> Refusal {
 
 fn run_value(
     alloc: Global,
-    testing: Testing<'_>,
+    tested: Tested<'_>,
+    store: &Entities,
     asked: &Asked<'_, '_>,
     tests: Source<'_>,
     value: &Value<'_>,
     extensions: &Extensions<'_>,
     warnings: String,
-) -> Result<Printed, Refusal> {
-    let name = tests.name;
-    match items_in(value) {
-        Some(items) => match first_fault(alloc, items)? {
-            Some(fault) => {
-                let line = format!(in alloc; "{name}: {fault}");
-                drop(fault);
-                Err(refuse_with_line(alloc, line))
-            }
-            None => Ok(run_items(alloc, testing, asked, items, extensions, warnings)?),
-        },
-        None => Err(refuse_with_line(alloc, format!(in alloc; "{name}: $: not an array"))),
+) -> Result<Printed, Refusal>
+    requires given { IsGivenStore (extensions_view extensions.now) (calls_of extensions.now) asked.now store.now }
+    requires writable { HasNumbers (value_view value.now) }
+    ensures tested { IfOk result (AreReadTestedBy (extensions_view extensions.now) (calls_of extensions.now)
+        tested.entry.policies.now tested.entry.way asked.now (value_view value.now)) }
+    ensures refused { IfErr result (IsToldFor (specs.tests_in (value_view value.now) ≡ None)) }
+{
+    let read = tests_in(alloc, value)?;
+    match read {
+        Some(all) => run_all(alloc, tested, store, asked, all, extensions, warnings),
+        None => Err(no_tests(alloc, tests, value)),
     }
 }
 
-fn run_items(
+#[cold]
+fn no_tests(alloc: Global, tests: Source<'_>, value: &Value<'_>) -> Refusal {
+    refuse_with_line(alloc, fault_line(alloc, tests.name, value))
+}
+
+fn fault_line(alloc: Global, name: &str, value: &Value<'_>) -> Result<String, AllocError> {
+    let fault = fault_in(alloc, value)?;
+    let line = format!(in alloc; "{name}: {fault}");
+    drop(fault);
+    line
+}
+
+fn run_all(
     alloc: Global,
-    testing: Testing<'_>,
+    tested: Tested<'_>,
+    store: &Entities,
     asked: &Asked<'_, '_>,
-    items: &Vec<Value<'_>>,
+    tests: Vec<PolicyTest<'_, '_>>,
     extensions: &Extensions<'_>,
     warnings: String,
-) -> Result<Printed, AllocError> {
-    let mut output = String::new(alloc);
-    let mut failed: usize = 0;
-    let mut number: usize = 0;
-    'items: for item in items {
-        number = number.saturating_add(1);
-        if let Some(test) = test_in(item) {
-            let one = run_test(alloc, testing, asked, test, number, extensions)?;
-            if one.is_refused || one.is_different {
-                failed = failed.saturating_add(1);
-            }
-            put_line(one, &mut output)?;
-        }
-    }
-    let passed = number.saturating_sub(failed);
-    let summary = format!(in alloc; "{{\"passed\":{passed},\"failed\":{failed}}}\n")?;
-    output.push_str(summary.as_str())?;
-    drop(summary);
-    Ok(Printed {
-        output,
-        warnings,
-        status: if failed == 0 { 0 } else { 1 },
-    })
+) -> Result<Printed, Refusal>
+    requires given { IsGivenStore (extensions_view extensions.now) (calls_of extensions.now) asked.now store.now }
+    requires writable { AreWritable (tests_view tests.entry) }
+    ensures tested { IfOk result (AreTestedBy (extensions_view extensions.now) (calls_of extensions.now)
+        tested.entry.policies.now tested.entry.way asked.now (tests_view tests.entry)) }
+    ensures refused { IfErr result (IsToldFor ⊥) }
+{
+    let results = run_each(alloc, tested, store, asked, &tests, extensions);
+    drop(tests);
+    let all = results?;
+    let printed = all.print(alloc, warnings)?;
+    Ok(printed)
 }
 
-fn put_line(one: Comparison, output: &mut String) -> Result<(), AllocError> {
-    let Comparison {
-        line,
-        is_refused: _,
-        is_different: _,
-    } = one;
-    let put = output.push_str(line.as_str());
-    drop(line);
-    put
+fn run_each(
+    alloc: Global,
+    tested: Tested<'_>,
+    store: &Entities,
+    asked: &Asked<'_, '_>,
+    tests: &[PolicyTest<'_, '_>],
+    extensions: &Extensions<'_>,
+) -> Result<Results, AllocError>
+    requires given { IsGivenStore (extensions_view extensions.now) (calls_of extensions.now) asked.now store.now }
+    requires writable { AreWritable (map test_view tests.now) }
+    ensures { IfOk result (AreResults (extensions_view extensions.now) (calls_of extensions.now)
+        tested.entry.policies.now tested.entry.way asked.now (map test_view tests.now)) }
+{
+    let mut results = Results::none(alloc);
+    'tests: for i in 0..tests.len() {
+        let one = run_test(alloc, tested, store, asked, tests[i], i + 1, extensions)?;
+        results.put(one)?;
+    }
+    Ok(results)
 }

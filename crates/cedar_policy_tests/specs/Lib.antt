@@ -1,4 +1,5 @@
 pub mod Texts
 pub mod Said
+pub mod Written
 pub mod Views
-pub mod Expected
+pub mod Failures

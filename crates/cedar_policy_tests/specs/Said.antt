@@ -113,7 +113,16 @@ test_in j =
     test_of (has_test_keys (as_object j)) (text_at (codes "name") j) (get (codes "request") j)
     (get (codes "entities") j) (decision_in j) (reason_in j) (count_in j)
 
--- each item is a test
-abbrev pub are_tests : Items → Bool
-are_tests no_items = true
-are_tests (item j js) = is_some (test_in j) && are_tests js
+-- this one, and those
+abbrev pub with_first : Option SaidTest → Option (List SaidTest) → Option (List SaidTest)
+with_first None ts = None
+with_first (Some t) ts = option_map (λ more. t ∷ more) ts
+
+-- each item is a test: all of them, in order
+abbrev pub item_tests : Items → Option (List SaidTest)
+item_tests no_items = Some []
+item_tests (item j js) = with_first (test_in j) (item_tests js)
+
+-- an array of tests
+abbrev pub tests_in : Json → Option (List SaidTest)
+tests_in j = option_and_then item_tests (as_array j)

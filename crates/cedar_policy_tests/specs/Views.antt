@@ -1,5 +1,5 @@
 -- Tests as plain data.
-use Rattle.std.specs.Prelude.{List, Option, option_map, Vec, Global}
+use Rattle.std.specs.Prelude.{List, map, Option, option_map, Vec, Global}
 use Rattle.std.specs.Borrow.{Bor}
 use Rattle.json.specs.Json.{Json}
 use Rattle.json.specs.Value.{value_view, items_view}
@@ -27,3 +27,6 @@ test_view t = record {
   reason = option_map reason_view t.reason;
   num_errors = t.num_errors;
 }
+
+abbrev pub tests_view : Vec PolicyTest Global → List SaidTest
+tests_view v = map test_view v.items

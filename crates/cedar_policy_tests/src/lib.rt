@@ -1,25 +1,28 @@
-//! Tests of policies, read from JSON, and what they expect of an answer.
+//! Tests of policies, read from JSON, and what they fail in.
 //!
 //! A test is an object of a `name`, a `request` and a `decision` (`"allow"` or `"deny"`), and perhaps of `entities`, of a
 //! `reason`, an array of names of policies, and of `num_errors`, how many policies err. It has no other member.
 //!
-//! - `values`: `parse_tests`, the JSON value of a text, and `items_in`, its items.
-//! - `reading`: `PolicyTest`, a test, and `test_in`, the one that an item says. `faults`: `first_fault`, the first item that
-//!   says none, and why.
-//! - `expected`: `expected_answer`, what a test expects, against an answer that was found.
+//! - `values`: `parse_tests`, the JSON value of a text.
+//! - `reading`: `PolicyTest`, a test. `tests`: `tests_in`, those of which a value is an array. `faults`: `fault_in`, where a
+//!   value is no array of tests, and why.
+//! - `failures`: `failure_to_json`, what a test fails in, where an answer is found; `refusal_to_json`, why one can't be
+//!   asked; `counts_to_json`, how many pass and fail.
 //!
-//! The promise: an item is read as the test that a definition says, or as none (`test_in`, over `specs/Said.antt`), and
-//! there is a fault exactly where an item is none (`first_fault`; what it says is only tested). What is expected
-//! (`specs/Expected.antt`) differs from what was found exactly in the decision, in the reasons where the test names them,
-//! and in the count of the errors where it has one.
+//! The promise: a value is read as the tests that a definition says, or as none (`tests_in`, over `specs/Said.antt`; what
+//! `fault_in` says is only tested). A test passes exactly where decision, reasons and the count of the errors are those
+//! that it expects (`passes` of `specs/Failures.antt`): else it is told which it is, and each of the three that differs
+//! (`failure` there).
 #![tactic(auto)]
 
-mod expected;
+mod failures;
 mod faults;
 mod reading;
+mod tests;
 mod values;
 
-pub use expected::expected_answer;
-pub use faults::first_fault;
-pub use reading::{PolicyTest, test_in};
-pub use values::{TestsError, items_in, parse_tests};
+pub use failures::{counts_to_json, failure_to_json, refusal_to_json};
+pub use faults::fault_in;
+pub use reading::PolicyTest;
+pub use tests::tests_in;
+pub use values::{TestsError, parse_tests};

@@ -31,7 +31,7 @@ pub struct PolicyTest<'v, 'a> {
 
 /// The test that the value says. None where it is no object, has another member than those of a test, lacks one that each
 /// test has, or has one that is of another kind.
-pub fn test_in<'v, 'a>(value: &'v Value<'a>) -> Option<PolicyTest<'v, 'a>>
+pub(crate) fn test_in<'v, 'a>(value: &'v Value<'a>) -> Option<PolicyTest<'v, 'a>>
     ensures { option_map test_view result ≡ specs.test_in (value_view value.now) }
 {
     test_of(

@@ -42,7 +42,7 @@ pub fn parse_tests<'a>(
 }
 
 /// The items, where the value is an array.
-pub fn items_in<'v, 'a>(value: &'v Value<'a>) -> Option<&'v Vec<Value<'a>>>
+pub(crate) fn items_in<'v, 'a>(value: &'v Value<'a>) -> Option<&'v Vec<Value<'a>>>
     ensures { option_map (λ js. items_view js.now.items) result ≡ as_array (value_view value.now) }
 {
     match value {

@@ -231,9 +231,8 @@ fn compare_both(alloc: Global, both: Both, number: usize) -> Result<Comparison, 
     one
 }
 
-/// Why there are no answers to the request of this number, as an object on a line of the reason and the number. Refuses
-/// only if out of memory.
-pub fn refused(alloc: Global, refusal: Refusal, number: usize) -> Result<Comparison, AllocError>
+// Why there are no answers to the request of this line.
+fn refused(alloc: Global, refusal: Refusal, number: usize) -> Result<Comparison, AllocError>
     ensures told { IfOk result (λ c. IsTold refusal) }
     ensures refused { IfOk result (λ c. c.is_refused ≡ true) }
     ensures same { IfOk result (λ c. c.is_different ≡ false) }

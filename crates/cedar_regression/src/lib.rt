@@ -16,4 +16,4 @@ mod answers;
 mod comparisons;
 
 pub use answers::answer_of;
-pub use comparisons::{compare_policies, refused};
+pub use comparisons::compare_policies;
