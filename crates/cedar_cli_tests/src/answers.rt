@@ -115,7 +115,14 @@ fn answer_request(
         (calls_of extensions.now) (asking asked.now request.entry))) }
 {
     let asked = with_request(asked, request);
-    answer_of(alloc, tested.policies, store, tested.way, &asked, extensions)
+    answer_of(
+        alloc,
+        tested.policies,
+        store,
+        tested.way,
+        &asked,
+        extensions,
+    )
 }
 
 // The same question of this request.

@@ -135,12 +135,7 @@ fn refuse(
     }
 }
 
-fn refuse_for(
-    alloc: Global,
-    name: &str,
-    lines: &str,
-    number: usize,
-) -> Result<Verdict, AllocError>
+fn refuse_for(alloc: Global, name: &str, lines: &str, number: usize) -> Result<Verdict, AllocError>
     ensures { IfOk result (λ v. IsRefusalTold number name.now (verdict_view v)) }
 {
     let told = refusal_to_json(alloc, number, name, lines.trim_end())?;

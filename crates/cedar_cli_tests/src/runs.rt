@@ -115,7 +115,9 @@ fn run_text(
 {
     let mut scratch = Scratch::new(alloc);
     match parse_tests(alloc, tests.text, &mut scratch) {
-        Ok(value) => run_value(alloc, tested, store, asked, tests, &value, extensions, warnings),
+        Ok(value) => run_value(
+            alloc, tested, store, asked, tests, &value, extensions, warnings,
+        ),
         Err(error) => Err(unread(alloc, tests, error)),
     }
 }

@@ -11,11 +11,7 @@ use cedar_json_writer::{JsonValue, put_item, text_to_json};
 use std::alloc::{AllocError, Global};
 
 /// The texts that the others don't have, as an array in their order. Refuses only if out of memory.
-pub fn only_in(
-    alloc: Global,
-    texts: &[String],
-    others: &[String],
-) -> Result<JsonValue, AllocError>
+pub fn only_in(alloc: Global, texts: &[String], others: &[String]) -> Result<JsonValue, AllocError>
     ensures { IfOk result
         (λ j. json_view j ≡ texts_json (only_in (map string_bytes texts.now) (map string_bytes others.now))) }
 {

@@ -1,18 +1,25 @@
 -- Tests that are put one behind the other.
-use Rattle.std.proofs.Common.{◌≡◌, refl, sym, ap, ◌∙◌, subst, List, [], ◌∷◌, ◌++◌, map, append_assoc, append-nil, ℤ, Option, Some, None, option_map, IfSome, Bool, true, false, cond, bytes_eq, codes, Result, Ok, Err, IfOk}
-use Rattle.std.proofs.lemmas.List.{map-append}
+use Rattle.std.proofs.Common.{◌≡◌, refl, sym, ap, ◌∙◌, subst, List, [], ◌∷◌, ◌++◌, map, length, append_assoc, append-nil, ℤ, Option, Some, None, option_map, IfSome, Bool, true, false, cond, bytes_eq, codes, Result, Ok, Err, IfOk}
+use Rattle.std.proofs.lemmas.List.{length-map}
 use Rattle.json.specs.Find.{get, get_member, later_or, as_object}
 use Rattle.json.specs.Json.{Json, Items, no_items, item, Members, no_members, member, null, boolean, number, string, array, object}
 use Rattle.json.specs.Tree.{HasNumbers, ItemsHaveNumbers, MembersHaveNumbers}
 use Rattle.cedar_model.specs.Terms.{Text}
+use Rattle.cedar_model.specs.Outcomes.{has_text}
 use Rattle.cedar_model.specs.Policies.{Decision}
+use Rattle.cedar_expectations.specs.Lists.{only_in}
 use Rattle.cedar_policy_tests.specs.Said.{SaidTest, with_first, item_tests, tests_in, test_in, test_of, has_test_keys, text_at, decision_in, reason_in, count_in}
 use Rattle.cedar_policy_tests.specs.Written.{IsWritable, AreWritable}
 
--- one more at the end, seen by `view`
-pub one_mapped : {T U : Type 0} (view : T → U) (old new : List T) (t : T) → new ≡ old ++ t ∷ []
-    → map view new ≡ map view old ++ view t ∷ []
-one_mapped view old new t h = ap (map view) h ∙ map-append view old (t ∷ [])
+-- as many as there are
+pub mapped_length : {T U : Type 0} (f : T → U) (xs : List T) → length (map f xs) ≡ length xs
+mapped_length f xs = length-map xs f
+
+-- none of them is in no list
+pub all_left : (ts : List Text) → only_in ts [] ≡ ts
+unfolding has_text
+all_left [] = refl
+all_left (t ∷ ts) = ap (λ (more : List Text). t ∷ more) (all_left ts)
 
 -- those that are left, behind those that are put
 abbrev pub with_all : List SaidTest → Option (List SaidTest) → Option (List SaidTest)

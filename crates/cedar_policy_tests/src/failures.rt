@@ -1,14 +1,15 @@
-#![tactic(auto, using(cedar_json_writer::proofs::Trees::trees))]
+#![tactic(auto, using(cedar_json_writer::proofs::Trees::trees, crate::proofs::Lists::mapped_length))]
 //! What tests fail in.
-ghost use Rattle.std.specs.Prelude.{◌≡◌, ◌++◌, ◌∷◌, [], Some, map, length, IfOk, OnOk, string_bytes, option_map};
-ghost use Rattle.std.specs.Fmt.{signed_decimal};
-ghost use Rattle.json.specs.Json.{number};
+ghost use Rattle.std.specs.Prelude.{◌≡◌, ◌++◌, ◌∷◌, [], Some, map, length, IfOk, OnOk, codes};
+ghost use Rattle.std.specs.Prelude.{string_bytes, option_map};
+ghost use Rattle.json.specs.Json.{string};
 ghost use Rattle.json.specs.Value.{value_view, items_view};
 ghost use Rattle.cedar_decisions.specs.Decisions.{decision_view};
 ghost use Rattle.cedar_json_writer.specs.Responses.{decision_json};
 ghost use Rattle.cedar_json_writer.specs.Texts.{texts_json};
 ghost use Rattle.cedar_json_writer.specs.Trees.{json_view, members_seen};
 ghost use Rattle.cedar_expectations.specs.Answers.{answer_view};
+ghost use Rattle.cedar_expectations.specs.Differences.{count_json};
 ghost use Rattle.cedar_policy_tests.specs.Failures as specs;
 ghost use Rattle.cedar_policy_tests.specs.Said.{text_list, text_of};
 ghost use Rattle.cedar_policy_tests.specs.Views.{test_view, reason_view};
@@ -18,7 +19,7 @@ use cedar_decisions::Decision;
 use cedar_expectations::{
     Answer, count_to_json, have_same, is_same_decision, only_in, pair_to_json,
 };
-use cedar_json_writer::{JsonValue, decision_to_json, put_item, put_member, text_to_json};
+use cedar_json_writer::{JsonValue, decision_to_json, put_member, text_to_json};
 use json::Value;
 use std::alloc::{AllocError, Global};
 use std::rc::RcStr;
@@ -36,21 +37,22 @@ pub fn failure_to_json(
     ensures { IfOk result (λ o. option_map json_view o
         ≡ specs.failure number (test_view test.entry) (answer_view found.now)) }
 {
-    let passes = passes(alloc, test, found)?;
-    failure_if(alloc, passes, number, test, found)
+    let is_passed = passes(alloc, test, found)?;
+    let told = failure_if(alloc, is_passed, number, test, found)?;
+    Ok(told)
 }
 
 fn failure_if(
     alloc: Global,
-    passes: bool,
+    is_passed: bool,
     number: usize,
     test: PolicyTest<'_, '_>,
     found: &Answer,
 ) -> Result<Option<JsonValue>, AllocError>
     ensures { IfOk result (λ o. option_map json_view o
-        ≡ specs.failure_if passes number (test_view test.entry) (answer_view found.now)) }
+        ≡ specs.failure_if is_passed number (test_view test.entry) (answer_view found.now)) }
 {
-    if passes {
+    if is_passed {
         Ok(None)
     } else {
         let failure = failure_of(alloc, number, test, found)?;
@@ -79,7 +81,13 @@ pub fn refusal_to_json(
 pub fn counts_to_json(alloc: Global, passed: usize, failed: usize) -> Result<JsonValue, AllocError>
     ensures { IfOk result (λ j. json_view j ≡ specs.counts_json passed failed) }
 {
-    pair_to_json(alloc, "passed", count_to_json(passed), "failed", count_to_json(failed))
+    pair_to_json(
+        alloc,
+        "passed",
+        count_to_json(passed),
+        "failed",
+        count_to_json(failed),
+    )
 }
 
 // ---- what passes
@@ -87,9 +95,11 @@ pub fn counts_to_json(alloc: Global, passed: usize, failed: usize) -> Result<Jso
 fn passes(alloc: Global, test: PolicyTest<'_, '_>, found: &Answer) -> Result<bool, AllocError>
     ensures { IfOk result (λ b. b ≡ specs.passes (test_view test.entry) (answer_view found.now)) }
 {
-    let has_reasons = has_reasons(alloc, test.reason, &found.reasons)?;
-    Ok(is_same_decision(test.decision, found.decision)
-        && (has_reasons && has_count(test.num_errors, &found.errors)))
+    let has_named = has_reasons(alloc, test.reason, &found.reasons)?;
+    Ok(
+        is_same_decision(test.decision, found.decision)
+            && (has_named && has_count(test.num_errors, &found.errors)),
+    )
 }
 
 fn has_reasons(
@@ -106,11 +116,7 @@ fn has_reasons(
     }
 }
 
-fn has_names(
-    alloc: Global,
-    names: &Vec<Value<'_>>,
-    found: &[String],
-) -> Result<bool, AllocError>
+fn has_names(alloc: Global, names: &Vec<Value<'_>>, found: &[String]) -> Result<bool, AllocError>
     ensures { IfOk result
         (λ b. b ≡ specs.has_reasons (Some (text_list (items_view names.now.items))) (map string_bytes found.now)) }
 {
@@ -166,7 +172,31 @@ fn put_test(
     ensures { OnOk result (members_seen members.new.items
         ≡ members_seen members.old.items ++ specs.test_members number name.now) }
 {
+    put_number(alloc, number, members)?;
+    put_name(alloc, name, members)?;
+    Ok(())
+}
+
+fn put_number(
+    alloc: Global,
+    number: usize,
+    members: &mut Vec<(RcStr, JsonValue)>,
+) -> Result<(), AllocError>
+    ensures { OnOk result (members_seen members.new.items
+        ≡ members_seen members.old.items ++ (codes "test", count_json number) ∷ []) }
+{
     put_member(alloc, "test", count_to_json(number), members)?;
+    Ok(())
+}
+
+fn put_name(
+    alloc: Global,
+    name: &str,
+    members: &mut Vec<(RcStr, JsonValue)>,
+) -> Result<(), AllocError>
+    ensures { OnOk result (members_seen members.new.items
+        ≡ members_seen members.old.items ++ (codes "name", string name.now) ∷ []) }
+{
     let name = text_to_json(alloc, name)?;
     put_member(alloc, "name", name, members)?;
     Ok(())
@@ -185,7 +215,8 @@ fn put_decision(
         Ok(())
     } else {
         let decisions = decisions_to_json(alloc, expected, found)?;
-        put_member(alloc, "decision", decisions, members)
+        put_member(alloc, "decision", decisions, members)?;
+        Ok(())
     }
 }
 
@@ -244,7 +275,8 @@ fn put_unless_same(
         Ok(())
     } else {
         let reasons = reasons_to_json(alloc, expected, found)?;
-        put_member(alloc, "reason", reasons, members)
+        put_member(alloc, "reason", reasons, members)?;
+        Ok(())
     }
 }
 
@@ -289,7 +321,8 @@ fn put_unless_count(
         Ok(())
     } else {
         let errors = errors_to_json(alloc, count, found)?;
-        put_member(alloc, "num_errors", errors, members)
+        put_member(alloc, "num_errors", errors, members)?;
+        Ok(())
     }
 }
 
@@ -306,10 +339,12 @@ fn errors_to_json(alloc: Global, count: i64, found: &[String]) -> Result<JsonVal
 
 // ---- lists of texts
 
+// Each of the texts, since none is in no list.
 fn texts_to_json(alloc: Global, texts: &[String]) -> Result<JsonValue, AllocError>
     ensures { IfOk result (λ j. json_view j ≡ texts_json (map string_bytes texts.now)) }
 {
-    only_in(alloc, texts, &[])
+    let all = only_in(alloc, texts, &[])?;
+    Ok(all)
 }
 
 fn names_of(alloc: Global, names: &Vec<Value<'_>>) -> Result<Vec<String>, AllocError>
@@ -317,16 +352,12 @@ fn names_of(alloc: Global, names: &Vec<Value<'_>>) -> Result<Vec<String>, AllocE
 {
     let mut texts: Vec<String> = Vec::new(alloc);
     'names: for name in names {
-        put_name(alloc, name, &mut texts)?;
+        put_text(alloc, name, &mut texts)?;
     }
     Ok(texts)
 }
 
-fn put_name(
-    alloc: Global,
-    name: &Value<'_>,
-    texts: &mut Vec<String>,
-) -> Result<(), AllocError>
+fn put_text(alloc: Global, name: &Value<'_>, texts: &mut Vec<String>) -> Result<(), AllocError>
     ensures { OnOk result (map string_bytes texts.new.items
         ≡ map string_bytes texts.old.items ++ text_of (value_view name.now) ∷ []) }
 {

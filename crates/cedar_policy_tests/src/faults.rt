@@ -36,11 +36,7 @@ fn fault_of(alloc: Global, item: &Value<'_>, index: usize) -> Result<String, All
     }
 }
 
-fn fault_of_member(
-    alloc: Global,
-    item: &Value<'_>,
-    index: usize,
-) -> Result<String, AllocError> {
+fn fault_of_member(alloc: Global, item: &Value<'_>, index: usize) -> Result<String, AllocError> {
     if item.get("name").is_none() {
         format!(in alloc; "$[{index}].name: missing")
     } else if text_at(item, "name").is_none() {

@@ -204,11 +204,7 @@ fn natural_in(number: &Value<'_>) -> Option<Option<i64>>
     ensures { result ≡ specs.natural_in (value_view number.now) }
 {
     match long_in(number) {
-        Some(long) => if long >= 0 {
-            Some(Some(long))
-        } else {
-            None
-        },
+        Some(long) => if long >= 0 { Some(Some(long)) } else { None },
         None => None,
     }
 }

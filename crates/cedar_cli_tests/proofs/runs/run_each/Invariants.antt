@@ -10,5 +10,5 @@ abbrev pub invariant-tests : goal.invariant-tests
 invariant-tests g l = record {
   so_far : AreSoFar (IsVerdictBy (extensions_view l.fn.extensions) (calls_of l.fn.extensions) l.fn.tested.policies.now
       l.fn.tested.way l.fn.asked) (map test_view l.fn.tests) (map test_view (drop l.i l.fn.tests)) (l.i + 1) l.results;
-  counted : l.results.passed + l.results.failed ≡ l.i
+  counted : l.results.passed + l.results.failed ≡ l.i;
 }

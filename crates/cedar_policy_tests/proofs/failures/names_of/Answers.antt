@@ -16,7 +16,7 @@ names-preserved c =
     drop_more xs l.name-index x (omega arith) ∙ ap (λ y. y ∷ drop (l.name-index + 1) xs) (sym c.name-item.is) in
     let done = map string_bytes l.texts.items in
     let rest = text_list (items_view (drop (l.name-index + 1) xs)) in
-    ap (λ (ts : List Text). ts ++ rest) c.in_ok-put_name.ensures
+    ap (λ (ts : List Text). ts ++ rest) c.in_ok-put_text.ensures
     ∙ append_assoc done (text_of (value_view x) ∷ []) rest
     ∙ sym (ap (λ (vs : List (Value Global)). done ++ text_list (items_view vs)) here)
     ∙ l.invariant
