@@ -1,3 +1,4 @@
+#![tactic(auto, using(cedar_json_reader::proofs::Views::views))]
 //! Tests of policies.
 ghost use Rattle.std.specs.Prelude.{◌≡◌, option_map};
 ghost use Rattle.std.specs.Option.{option_and_then};

@@ -1,3 +1,4 @@
+#![tactic(auto, using(cedar_json_reader::proofs::Views::views))]
 //! JSON values of tests.
 ghost use Rattle.std.specs.Prelude.{◌≡◌, Some, IfOk, IfErr, option_map};
 ghost use Rattle.json.specs.Find.{as_array};

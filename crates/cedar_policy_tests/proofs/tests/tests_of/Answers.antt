@@ -17,7 +17,7 @@ items-preserved c =
     let here : items_view (drop l.item-index xs) ≡ item (value_view x) rest =
     ap items_view (drop_more xs l.item-index x (omega arith) ∙ ap (λ y. y ∷ drop (l.item-index + 1) xs) (sym c.item-item.is)) in
     goes_on (tests_view l.tests) _ (test_view c.in-Some.test) (value_view x) rest (items_view (drop l.item-index xs)) _
-    c.in_ok-put.ensures c.in-Some.ensures here l.invariant
+    c.in_ok-put-in-Some.ensures c.in-Some.ensures here l.invariant
 
 pub returns-in-None : goal.returns-in-None
 returns-in-None c =
