@@ -4,7 +4,7 @@
 //! `reason`, an array of names of policies, and of `num_errors`, how many policies err. It has no other member.
 //!
 //! - `values`: `parse_tests`, the JSON value of a text.
-//! - `reading`: `PolicyTest`, a test. `tests`: `tests_in`, those of which a value is an array. `faults`: `fault_in`, where a
+//! - `reading`: `PolicyTest`, a test. `arrays`: `tests_in`, those of which a value is an array. `faults`: `fault_in`, where a
 //!   value is no array of tests, and why.
 //! - `failures`: `failure_to_json`, what a test fails in, where an answer is found; `refusal_to_json`, why one can't be
 //!   asked; `counts_to_json`, how many pass and fail.
@@ -15,14 +15,14 @@
 //! (`failure` there).
 #![tactic(auto)]
 
+mod arrays;
 mod failures;
 mod faults;
 mod reading;
-mod tests;
 mod values;
 
+pub use arrays::tests_in;
 pub use failures::{counts_to_json, failure_to_json, refusal_to_json};
 pub use faults::fault_in;
 pub use reading::PolicyTest;
-pub use tests::tests_in;
 pub use values::{TestsError, parse_tests};

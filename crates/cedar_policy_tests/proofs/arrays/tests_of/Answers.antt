@@ -6,7 +6,7 @@ use Rattle.json.specs.Value.{value_view, items_view}
 use Rattle.json.specs.declared.value.Value.{Value}
 use Rattle.cedar_policy_tests.specs.Views.{test_view, tests_view}
 use Rattle.cedar_policy_tests.proofs.Lists.{goes_on, stops, all_put}
-use Rattle.cedar_policy_tests.proofs.tests.tests_of.Goals as goal
+use Rattle.cedar_policy_tests.proofs.arrays.tests_of.Goals as goal
 
 pub items-preserved : goal.items-preserved
 items-preserved c =

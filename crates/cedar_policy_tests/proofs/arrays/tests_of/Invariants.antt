@@ -3,7 +3,7 @@ use Rattle.json.specs.Value.{items_view}
 use Rattle.cedar_policy_tests.specs.Said.{item_tests}
 use Rattle.cedar_policy_tests.specs.Views.{tests_view}
 use Rattle.cedar_policy_tests.proofs.Lists.{with_all}
-use Rattle.cedar_policy_tests.proofs.tests.tests_of.Given as goal
+use Rattle.cedar_policy_tests.proofs.arrays.tests_of.Given as goal
 
 -- those that are put, and those that are left
 abbrev pub invariant-items : goal.invariant-items
