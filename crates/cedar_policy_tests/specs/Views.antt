@@ -1,6 +1,7 @@
 -- Tests as plain data.
-use Rattle.std.specs.Prelude.{List, map, Option, option_map, Vec, Global}
+use Rattle.std.specs.Prelude.{List, map, Option, option_map, Vec}
 use Rattle.std.specs.Borrow.{Bor}
+use Rattle.std.specs.declared.alloc.Global.{Global}
 use Rattle.json.specs.Json.{Json}
 use Rattle.json.specs.Value.{value_view, items_view}
 use Rattle.json.specs.declared.value.Value.{Value}

@@ -1,5 +1,5 @@
 -- One after another.
-use Rattle.std.proofs.Common.{◌+◌, map, drop, ap, arith}
+use Rattle.std.proofs.Common.{◌+◌, map, drop, ap}
 use Rattle.std.proofs.lemmas.List.{drop_all}
 use Rattle.cedar_extensions.specs.Extensions.{extensions_view, calls_of}
 use Rattle.cedar_policy_tests.specs.Views.{test_view}

@@ -2,7 +2,6 @@ use Rattle.std.proofs.Common.{sym, subst, ap, ◌∙◌, IfSome, option_map}
 use Rattle.json.specs.Tree.{HasNumbers}
 use Rattle.json.specs.Value.{value_view}
 use Rattle.cedar_extensions.specs.Extensions.{extensions_view, calls_of}
-use Rattle.cedar_policy_tests.specs.Said.{tests_in}
 use Rattle.cedar_policy_tests.specs.Views.{tests_view}
 use Rattle.cedar_policy_tests.specs.Written.{AreWritable}
 use Rattle.cedar_cli.proofs.Composed.{of_ok, of_err}

@@ -1,11 +1,10 @@
 -- One after another.
-use Rattle.std.proofs.Common.{◌≡◌, ◌+◌, ◌∷◌, List, drop, sym, ap, ◌∙◌, arith, Global}
-use Rattle.std.proofs.lemmas.List.{drop_more, drop_all}
+use Rattle.std.proofs.Common.{◌≡◌, ◌+◌, ◌∷◌, drop, sym, ap, ◌∙◌, arith}
+use Rattle.std.proofs.lemmas.List.{drop_more}
 use Rattle.json.specs.Json.{item}
 use Rattle.json.specs.Value.{value_view, items_view}
-use Rattle.json.specs.declared.value.Value.{Value}
 use Rattle.cedar_policy_tests.specs.Views.{test_view, tests_view}
-use Rattle.cedar_policy_tests.proofs.Lists.{goes_on, stops, all_put}
+use Rattle.cedar_policy_tests.proofs.Lists.{goes_on, stops}
 use Rattle.cedar_policy_tests.proofs.arrays.tests_of.Goals as goal
 
 pub items-preserved : goal.items-preserved
