@@ -22,6 +22,8 @@ pub(crate) struct Options<'a> {
     pub(crate) allows_reload: bool,
     /// How many bytes the body of a request may have, if that is said.
     pub(crate) max_body: Option<usize>,
+    /// The name of the file to which decisions are told, if they are to be.
+    pub(crate) log: Option<&'a str>,
 }
 
 /// The command line.
@@ -30,6 +32,7 @@ pub(crate) fn command<'a>(alloc: Global) -> Result<Command<'a>, AllocError> {
     let page_size = "How many a page of a search has at most; left out, 100";
     let allow_reload = "Takes PUT /v1/policies and PUT /v1/entities from whoever is connected";
     let max_body = "How many bytes a body may have; left out, 1,048,576";
+    let log = "A file to which each decision is written as a line of JSON, before it is answered";
     Command::new(alloc, "cedar_serve")
         .bin_name("cedar_serve")?
         .about("Serves Cedar's decisions over HTTP: one connection, on standard input and output")
@@ -41,6 +44,7 @@ pub(crate) fn command<'a>(alloc: Global) -> Result<Command<'a>, AllocError> {
         )))?
         .arg(flag(alloc, "allow-reload", allow_reload))?
         .arg(lines(alloc)?)?
+        .arg(option(alloc, "log", "FILE", log))?
         .arg(option(alloc, "max-body", "BYTES", max_body).value_parser(ValueParser::Unsigned(
             0,
             1_000_000_000,
@@ -63,7 +67,8 @@ fn lines<'a>(alloc: Global) -> Result<Arg<'a>, AllocError> {
         .conflicts_with("url")?
         .conflicts_with("page-size")?
         .conflicts_with("allow-reload")?
-        .conflicts_with("max-body")
+        .conflicts_with("max-body")?
+        .conflicts_with("log")
 }
 
 // An option without a value.
@@ -89,6 +94,7 @@ pub(crate) fn options_of<'a>(matches: &ArgMatches<'a>) -> Options<'a> {
         is_lines: matches.get_flag("lines"),
         allows_reload: matches.get_flag("allow-reload"),
         max_body: matches.get_one::<usize>("max-body"),
+        log: matches.get_str("log"),
     }
 }
 

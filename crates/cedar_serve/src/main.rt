@@ -4,8 +4,9 @@
 //! - `main`: reads the words of the command line and the files, serves, and ends with a status: 0 where the connection is
 //!   done, `REFUSED` where there is none or it breaks, and `OUT_OF_MEMORY`.
 //! - `arguments`: the options. `files`: the files that they name. `serving`: `serve_texts`, the connection from the two
-//!   texts on. `lines`: `answer_texts`, requests that come a line each. `metadata`: where the endpoints are. `reasons`,
-//!   `refusal`, `visible`: why there is no connection, as it is told on standard error.
+//!   texts on. `logging`: `log_texts`, the same with a log. `lines`: `answer_texts`, requests that come a line each.
+//!   `metadata`: where the endpoints are. `reasons`, `refusal`, `visible`: why there is no connection, as it is told on
+//!   standard error.
 //!
 //! The promise, of `serve_texts`: what is sent is the answers that are due to the requests received, in their order,
 //! where decisions are those of the policies and the entities that the two texts say (`IsServedFrom` in
@@ -15,6 +16,7 @@
 mod arguments;
 mod files;
 mod lines;
+mod logging;
 mod metadata;
 mod reasons;
 mod refusal;
@@ -22,16 +24,17 @@ mod serving;
 mod visible;
 
 use arguments::{Options, command, options_of, text_of_help};
-use files::file_text;
+use files::{file_text, file_to_append};
 use http_server::{Config, State};
 use lines::answer_texts;
+use logging::log_texts;
 use reasons::refuse_texts;
 use refusal::{Refusal, refuse_with_line};
 use serving::{Stopped, Texts, serve_texts};
 use std::alloc::Global;
 use std::env::Env;
 use std::hash::RandomState;
-use std::io::{BufReader, BufWriter};
+use std::io::{BufReader, BufWriter, Write};
 use std::process::ExitCode;
 use std::random::RandomSource;
 use std::rt::Files;
@@ -130,7 +133,7 @@ fn serve_files<R: Files + Input + AllocGlobal + Print + RandomSource>(
     let ended = if options.is_lines {
         answer_host(rt, texts)
     } else {
-        serve_host(rt, config(options.max_body), texts)
+        serve_logging(rt, &options, texts)?
     };
     match ended {
         Ok(()) => Ok(()),
@@ -157,6 +160,43 @@ fn config(max_body: Option<usize>) -> Config {
     }
 }
 
+// With a log, if one is asked for.
+fn serve_logging<R: Files + Input + AllocGlobal + Print + RandomSource>(
+    rt: &R,
+    options: &Options<'_>,
+    texts: Texts<'_>,
+) -> Result<Result<(), Stopped>, Refusal> {
+    let config = config(options.max_body);
+    match options.log {
+        Some(name) => {
+            let log = file_to_append(rt, name)?;
+            Ok(log_host(rt, config, texts, log))
+        }
+        None => Ok(serve_host(rt, config, texts)),
+    }
+}
+
+// The same as `serve_host`, with this log.
+fn log_host<R: Input + AllocGlobal + Print + RandomSource, L: Write + Drop>(
+    rt: &R,
+    config: Config,
+    texts: Texts<'_>,
+    log: L,
+) -> Result<(), Stopped> {
+    let keys = RandomState::new(rt)?;
+    let mut writer = BufWriter::new(rt.alloc(), io::writer(rt))?;
+    let ended = log_texts(
+        rt.alloc(),
+        keys,
+        config,
+        texts,
+        log,
+        &mut rt.reader(),
+        &mut writer,
+    )?;
+    done(ended)
+}
+
 // Over standard input and output, which is written through a buffer.
 fn serve_host<R: Input + AllocGlobal + Print + RandomSource>(
     rt: &R,
@@ -173,6 +213,10 @@ fn serve_host<R: Input + AllocGlobal + Print + RandomSource>(
         &mut rt.reader(),
         &mut writer,
     )?;
+    done(ended)
+}
+
+fn done(ended: State) -> Result<(), Stopped> {
     match ended {
         State::Aborted => Err(Stopped::Broken(io::ErrorKind::OutOfMemory.into())),
         State::Open | State::Closing(_) | State::Upgraded => Ok(()),

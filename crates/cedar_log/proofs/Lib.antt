@@ -1,0 +1,4 @@
+mod Views
+mod Numbers
+mod Items
+mod Telling
