@@ -1,0 +1,71 @@
+//! The three stages. Each but the first knows of the stages before it what their line says, and nothing else.
+use crate::LEVELS;
+use crate::asked::{Asked, at_the_edge, which_chart, which_context};
+use crate::stop::Stop;
+use cedar_policy_core::ast::{PolicySet, Unknowns};
+use cedar_policy_core::authorizer::{Authorizer, PartialResponse};
+use cedar_policy_core::entities::Entities;
+use cedar_policy_core::extensions::Extensions;
+use cedar_policy_core::parser::Functions;
+use cedar_response_json::whole_response_to_json;
+use cedar_response_json_reader::whole_response_from_json_str;
+use cedar_staged::Staged;
+use std::alloc::Global;
+
+/// What each stage has: the extensions, and its own store.
+pub struct Stage<'x> {
+    /// The extensions, the same ones everywhere.
+    pub extensions: &'x Extensions<'x>,
+    /// Their functions.
+    pub functions: &'x Functions,
+    /// The store.
+    pub store: &'x Entities,
+}
+
+/// The edge knows who asks to do what.
+pub fn edge<'x>(
+    alloc: Global,
+    stage: &Stage<'x>,
+    policies: &'x PolicySet,
+    asked: &Asked,
+) -> Result<Staged<'x, 'x>, Stop> {
+    let request = at_the_edge(alloc, asked)?;
+    let authorizer = Authorizer::new(stage.extensions, LEVELS);
+    Ok(Staged::begin(alloc, &authorizer, request, policies, stage.store)?)
+}
+
+/// The regional gateway knows which chart it is.
+pub fn regional(
+    alloc: Global,
+    stage: &Stage<'_>,
+    line: &str,
+    asked: &Asked,
+) -> Result<PartialResponse, Stop> {
+    let before = read(alloc, stage, line)?;
+    let values = which_chart(alloc, asked)?;
+    let authorizer = Authorizer::new(stage.extensions, LEVELS);
+    Ok(before.reauthorize(alloc, &values, &authorizer, stage.store)?)
+}
+
+/// The backend knows the context, and all entities.
+pub fn backend(
+    alloc: Global,
+    stage: &Stage<'_>,
+    line: &str,
+    asked: &Asked,
+) -> Result<PartialResponse, Stop> {
+    let before = read(alloc, stage, line)?;
+    let mut values = before.entity_values(alloc)?;
+    which_context(alloc, asked, &mut values)?;
+    let authorizer = Authorizer::new(stage.extensions, LEVELS);
+    Ok(before.reauthorize(alloc, &values, &authorizer, stage.store)?)
+}
+
+/// The line that a stage writes of a response.
+pub fn line(alloc: Global, stage: &Stage<'_>, response: &PartialResponse) -> Result<String, Stop> {
+    Ok(whole_response_to_json(alloc, response, stage.extensions)?.to_text(alloc)?)
+}
+
+fn read(alloc: Global, stage: &Stage<'_>, line: &str) -> Result<PartialResponse, Stop> {
+    Ok(whole_response_from_json_str(alloc, line, stage.extensions, stage.functions, LEVELS)?)
+}
