@@ -1,6 +1,6 @@
 -- The context that an expression is.
-use Rattle.std.specs.Prelude.{◌≡◌, ◌⊎◌, ⊤, ℕ, Bool, true, false, MatchBool, [], ◌∷◌, Option, Some, None, is_some, bytes_eq}
-use Rattle.std.specs.Prelude.{Err, codes}
+use Rattle.std.specs.Prelude.{◌≡◌, ◌≢◌, ◌⊎◌, ⊤, ℕ, Bool, true, false, MatchBool, [], ◌∷◌, Option, Some, None, is_some, bytes_eq}
+use Rattle.std.specs.Prelude.{Ok, Err, codes}
 use Rattle.cedar_model.specs.Terms.{Text, ValueType, Term}
 use Rattle.cedar_model.specs.World as world
 use Rattle.cedar_model.specs.Failures.{answers}
@@ -8,7 +8,10 @@ use Rattle.cedar_model.specs.Settings.{ContextPart, absent_context, context_valu
 use Rattle.cedar_model.specs.Restricted.{first_disallowed}
 use Rattle.cedar_model.specs.Rules.{StoredCalls}
 use Rattle.cedar_policy_json_reader.specs.Paths.{at_key, path_view}
+use Rattle.cedar_values.specs.Residuals.{partial_term}
+use Rattle.cedar_requests.specs.Contexts.{context_part_value}
 use Rattle.cedar_requests.specs.Creations.{IsCreated}
+use Rattle.cedar_requests.specs.declared.context.Context.{Context}
 use Rattle.cedar_requests.specs.declared.errors.ContextCreationError.{ContextCreationError}
 use Rattle.cedar_requests.specs.declared.errors.ContextCreationError.TheVariants as creations
 use Rattle.cedar_restricted.specs.Evaluations.{IsBare, IsAnswerWithin}
@@ -33,19 +36,22 @@ IsNoMemory (creations.Memory e) = ⊥
 
 -- with these extensions, whose functions may answer this, within so many levels
 module _ (x : world.Extensions) (calls : StoredCalls) (n : ℕ) where
-  -- what the record is evaluated to
+  -- what the record is evaluated to, which is written as this very record: each set in order, each element once
   abbrev pub IsRecordOf : Term → ContextPart → Type 0
-  IsRecordOf t c = (s : Setting) → IsBare x s → IsAnswerWithin s calls n t (answers (context_value c))
+  IsRecordOf t c =
+      ((s : Setting) → IsBare x s → IsAnswerWithin s calls n t (answers (context_value c)))
+      × (partial_term (context_value c) ≡ t)
 
   -- no context, where it is that unknown, and else what the record is evaluated to
   abbrev pub IsContextOf : Term → ContextPart → Type 0
   IsContextOf t c = MatchBool (is_absent (unknown_in t)) (c ≡ absent_context) (IsRecordOf t c)
 
-  -- it is not restricted, or no record, or its evaluation fails
+  -- it is not restricted, or no record, or its evaluation fails, or it is evaluated to what is written in another way
   abbrev pub IsNone : Term → Type 0
   IsNone t =
       (is_some (first_disallowed t) ≡ true)
-      ⊎ ((e : ContextCreationError) × IsCreated x calls n t (Err e) × IsNoMemory e)
+      ⊎ (((e : ContextCreationError) × IsCreated x calls n t (Err e) × IsNoMemory e)
+      ⊎ ((c : Context) × IsCreated x calls n t (Ok c) × (partial_term (context_part_value c) ≢ t)))
 
   -- that is why there is no context, or memory ran out
   abbrev pub IsWhyNone : Term → ResponseJsonError → Type 0

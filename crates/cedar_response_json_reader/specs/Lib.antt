@@ -2,6 +2,7 @@ pub mod Contexts
 pub mod Errors
 pub mod Extensions
 pub mod Held
+pub mod JsonTexts
 pub mod Refusals
 pub mod Requests
 pub mod Responses

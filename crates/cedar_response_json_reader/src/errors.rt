@@ -26,8 +26,9 @@ pub enum ResponseRefusal {
     /// none.
     #[error("not an entity and not the unknown of this variable")]
     NotAnEntity,
-    /// What stands for the context is neither its unknown nor a record that is restricted and evaluated without an error.
-    #[error("not a context")]
+    /// What stands for the context is neither its unknown nor a record that is restricted, is evaluated without an error
+    /// and is written as what it is evaluated to: its sets in order, no element twice.
+    #[error("not a context, or not as a context is written")]
     NotAContext,
     /// What stands at `reported` is neither `satisfied`, `unsatisfied`, `erring` nor `residual`.
     #[error("not satisfied, unsatisfied, erring or residual")]

@@ -1,8 +1,10 @@
-#![tactic(auto, using(crate::proofs::Refused::refusals))]
+#![tactic(auto, using(crate::proofs::Refused::refusals, crate::proofs::TextLemmas::text_lemmas))]
 //! Whole partial responses.
-ghost use Rattle.std.specs.Prelude.{◌≡◌, None, Ok, IfOk, IfErr, map, codes, option_map};
+ghost use Rattle.std.specs.Prelude.{◌≡◌, Some, None, Ok, IfOk, IfErr, map, codes, option_map};
 ghost use Rattle.std.specs.Option.{option_and_then};
 ghost use Rattle.json.specs.Find.{as_str};
+ghost use Rattle.json.specs.Json.{document};
+ghost use Rattle.json.specs.Strict.{HasUniqueKeys};
 ghost use Rattle.json.specs.Value.{value_view};
 ghost use Rattle.cedar_decisions.specs.Decisions.{mode_view};
 ghost use Rattle.cedar_expressions.specs.View.{view};
@@ -16,6 +18,7 @@ ghost use Rattle.cedar_response_json.specs.Extensions.{names_of};
 ghost use Rattle.cedar_response_json_reader.specs.Refusals.{IsRefusal, both_said};
 ghost use Rattle.cedar_response_json_reader.specs.Contexts.{IsWhyNone};
 ghost use Rattle.cedar_response_json_reader.specs.Held.{told, IsRequestOf};
+ghost use Rattle.cedar_response_json_reader.specs.JsonTexts.{IsUnread, SaysSo, IsTextRefusal};
 ghost use Rattle.cedar_response_json_reader.specs.Responses as says;
 ghost use Rattle.cedar_response_json_reader.specs.Rows.{held_row, repeated_in};
 ghost use Rattle.cedar_response_json_reader.specs.Shapes.{part_at};
@@ -47,17 +50,43 @@ type Parts = (EntityUIDEntry, (EntityUIDEntry, (EntityUIDEntry, Expr)));
 // What is reported of policies, and what is told of errors.
 type Reports = (Vec<(Report, Policy)>, Vec<AuthorizationError>);
 
-/// The response that the JSON text says, as `whole_response_from_json` reads it.
+/// The response that the JSON text says, as `whole_response_from_json` reads it. `Syntax` where the text is no JSON or
+/// nests deeper than 128 levels, `DuplicateKey` where an object of it has a key twice, and else as
+/// `whole_response_from_json` refuses.
 pub fn whole_response_from_json_str(
     alloc: Global,
     text: &str,
     extensions: &Extensions<'_>,
     functions: &Functions,
     limit: usize,
-) -> Result<PartialResponse, ResponseJsonError> {
+) -> Result<PartialResponse, ResponseJsonError>
+    ensures said { IfOk result (λ r. SaysSo text.now (λ j. says.Reads (extensions_view extensions.now)
+        (calls_of extensions.now) limit (says.response_said (knowledge functions.now) limit (names_of extensions.now) j) r)) }
+    ensures refused { IfErr result (IsTextRefusal text.now (λ j. says.IsWhyNotRead (extensions_view extensions.now)
+        (calls_of extensions.now) limit (says.response_said (knowledge functions.now) limit (names_of extensions.now) j))) }
+{
     let mut scratch = Scratch::new(alloc);
-    match Value::parse_strict(alloc, text, &mut scratch) {
-        Ok(value) => whole_response_from_json(alloc, &value, extensions, functions, limit),
+    match parse_json(alloc, text, &mut scratch) {
+        Ok(value) => match whole_response_from_json(alloc, &value, extensions, functions, limit) {
+            Ok(response) => Ok(response),
+            Err(error) => Err(error),
+        },
+        Err(error) => Err(error),
+    }
+}
+
+// The JSON value that the text is.
+fn parse_json<'a>(
+    alloc: Global,
+    text: &'a str,
+    scratch: &'a mut Scratch,
+) -> Result<Value<'a>, ResponseJsonError>
+    ensures said { IfOk result (λ v. document text.now ≡ Some (value_view v)) }
+    ensures unique { IfOk result (λ v. HasUniqueKeys (value_view v)) }
+    ensures unread { IfErr result (IsUnread text.now) }
+{
+    match Value::parse_strict(alloc, text, scratch) {
+        Ok(value) => Ok(value),
         Err(Error::Invalid) => Err(ResponseJsonError::Syntax),
         Err(Error::TooLong) => Err(ResponseJsonError::Syntax),
         Err(Error::DuplicateKey) => Err(ResponseJsonError::DuplicateKey),
@@ -65,7 +94,9 @@ pub fn whole_response_from_json_str(
     }
 }
 
-/// The response that the JSON value says.
+/// The response that the JSON value says, with the extensions that it names, which must be these, in their order; within
+/// so many levels. Refuses with `Refused`, which holds the path of the part that is refused first, and the reason; `Memory`
+/// is out of memory.
 pub fn whole_response_from_json(
     alloc: Global,
     json: &Value<'_>,
