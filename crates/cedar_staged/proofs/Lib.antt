@@ -4,3 +4,6 @@ pub mod First
 pub mod Grown
 pub mod Read
 pub mod Refused
+pub mod Relayed
+pub mod Resuming
+pub mod ReadOn

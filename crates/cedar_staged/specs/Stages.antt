@@ -3,6 +3,7 @@ use Rattle.std.specs.Prelude.{◌≡◌, true, false, List, [], ◌∷◌, ◌++
 use Rattle.cedar_model.specs.Settings.{RequestPart, Store}
 use Rattle.cedar_model.specs.Policies.{Policy}
 use Rattle.cedar_model.specs.Chains.{ChainStep, has_limit}
+use Rattle.cedar_model.specs.Configurations.{Configuration}
 use Rattle.cedar_layers.specs.declared.policies.entities.Entities.{Entities}
 use Rattle.cedar_layers.specs.declared.policies.policy_set.PolicySet.{PolicySet}
 use Rattle.cedar_layers.specs.Stores.{store_view}
@@ -21,6 +22,14 @@ use Rattle.cedar_unknowns.specs.Occurrences.{Asked, request_occurrences, row_occ
 use Rattle.cedar_staged.specs.declared.staged.Staged.{Staged}
 use Rattle.cedar_staged.specs.declared.errors.StageError.{StageError}
 use Rattle.cedar_staged.specs.declared.errors.StageError.TheVariants as stages
+
+-- why no step from a response, with these values over this store, is taken
+abbrev pub IsWhyNoStep : Configuration → PartialResponse → ValuesByName → Entities → StageError → Type 0
+IsWhyNoStep c r values entities stages.LimitIsRecorded = has_limit (errors_of r) ≡ true
+IsWhyNoStep c r values entities (stages.Refused e) =
+    (has_limit (errors_of r) ≡ false)
+    × IfSome (step_answer (Err e)) (IsStep c (step_by values entities) (response_said r))
+IsWhyNoStep c r values entities (stages.Memory e) = Unit {0}
 
 module _ {X : Type 0} {F : X → Type 0} {g : _} where
   -- what decides
@@ -87,9 +96,4 @@ module _ {X : Type 0} {F : X → Type 0} {g : _} where
 
   -- why no step with these values over this store is taken
   abbrev pub IsWhyNot : Staged X F g → ValuesByName → Entities → StageError → Type 0
-  IsWhyNot s values entities stages.LimitIsRecorded = has_limit (errors_of (response_of s)) ≡ true
-  IsWhyNot s values entities (stages.Refused e) =
-      (has_limit (errors_of (response_of s)) ≡ false)
-      × IfSome (step_answer (Err e))
-      (IsStep (configuration (authorizer_of s)) (step_by values entities) (response_said (response_of s)))
-  IsWhyNot s values entities (stages.Memory e) = Unit {0}
+  IsWhyNot s values entities e = IsWhyNoStep (configuration (authorizer_of s)) (response_of s) values entities e

@@ -1,5 +1,6 @@
 //! What holds of responses that crossed a wire. Each function is a law, and does nothing.
 ghost use Rattle.cedar_authorizer.specs.Configured.{configuration, DifferInResolution};
+ghost use Rattle.cedar_staged.specs.Relays.{RelaysHaveTheHeadline};
 ghost use Rattle.cedar_staged.specs.Wires.{TakesItsChainsFurther};
 
 use cedar_authorizer::authorizer::{Authorizer, PartialResponse};
@@ -17,4 +18,12 @@ pub fn steps_from_the_same_go_on(
 )
     ensures { DifferInResolution authorizer.now next.now → TakesItsChainsFurther (configuration authorizer.now)
         (configuration next.now) response.now read.now }
+{}
+
+/// The headline of steps on different machines. Where the first machine answered a request by the core call, and each of
+/// the others read what says the same as what the one before answered, without the recursion limit, and took a step
+/// from it by `reauthorize`, then what the last one answers has the headline of all these steps, as if one machine had
+/// taken them. The authorizers differ in their resolution alone.
+pub fn relayed_steps_have_the_headline(authorizer: &Authorizer<'_>)
+    ensures { RelaysHaveTheHeadline authorizer.now }
 {}

@@ -142,7 +142,7 @@ impl<'f, 's> Staged<'f, 's> {
 ghost use Rattle.cedar_staged.specs.Refusals.{IsRefusal};
 
 // Why the step is refused.
-fn refusal(error: ReauthorizationError) -> StageError
+pub(crate) fn refusal(error: ReauthorizationError) -> StageError
     ensures { IsRefusal error result }
 {
     match error {
