@@ -123,7 +123,7 @@ pub fn which_chart(alloc: Global, asked: &Asked) -> Result<HashMap<RcStr, Value>
     Ok(values)
 }
 
-/// What the backend brings: the context.
+/// The context, among these values.
 pub fn which_context(
     alloc: Global,
     asked: &Asked,

@@ -8,8 +8,8 @@
 //! The last decision is compared with that of the whole request at once, over all entities. Nobody signs the lines here;
 //! a real gateway does, since whoever can write a line can leave a forbid out of it.
 //!
-//! There is no clause of its own: what holds of the stages is what `Staged`, `whole_response_to_json`, its reader and
-//! `reauthorize` promise.
+//! There is no clause of its own: what holds of the stages is what `Staged`, `Resumed`, `whole_response_to_json` and its
+//! reader promise.
 #![tactic(auto)]
 
 mod asked;
@@ -17,7 +17,7 @@ mod report;
 mod stages;
 mod stop;
 
-use asked::{Asked, REQUESTS, whole};
+use asked::{Asked, REQUESTS, which_chart, whole};
 use cedar_policy_core::ast::PolicySet;
 use cedar_policy_core::authorizer::Authorizer;
 use cedar_policy_core::entities::json::entities_from_json_str;
@@ -25,7 +25,7 @@ use cedar_policy_core::entities::{Entities, close_hierarchy, close_hierarchy_par
 use cedar_policy_core::extensions::Extensions;
 use cedar_policy_core::parser::{Functions, parse_policies};
 use report::print_known;
-use stages::{Stage, backend, edge, line, regional};
+use stages::{Stage, edge, for_the_backend, line, read, taken_further};
 use std::alloc::Global;
 use std::process::ExitCode;
 use std::rt::Files;
@@ -100,12 +100,16 @@ fn decide<R: AllocGlobal + Print>(
     print_known(rt, "edge", first.response())?;
     let first_line = line(alloc, at_edge, first.response())?;
     println!(rt; "    {}", first_line.as_str())?;
-    let second = regional(alloc, at_region, first_line.as_str(), asked)?;
-    print_known(rt, "region", &second)?;
-    let second_line = line(alloc, at_region, &second)?;
+    let before = read(alloc, at_region, first_line.as_str())?;
+    let chart = which_chart(alloc, asked)?;
+    let second = taken_further(alloc, at_region, before, &chart)?;
+    print_known(rt, "region", second.response())?;
+    let second_line = line(alloc, at_region, second.response())?;
     println!(rt; "    {}", second_line.as_str())?;
-    let third = backend(alloc, at_backend, second_line.as_str(), asked)?;
-    print_known(rt, "backend", &third)?;
+    let before = read(alloc, at_backend, second_line.as_str())?;
+    let values = for_the_backend(alloc, &before, asked)?;
+    let third = taken_further(alloc, at_backend, before, &values)?;
+    print_known(rt, "backend", third.response())?;
     let authorizer = Authorizer::new(at_backend.extensions, LEVELS);
     let request = whole(alloc, asked)?;
     let at_once = authorizer.is_authorized(alloc, request, policies, at_backend.store)?;

@@ -1,6 +1,6 @@
 //! Why the gateway stops.
-use cedar_policy_core::authorizer::ReauthorizationError;
 use cedar_response_json_reader::ResponseJsonError;
+use cedar_staged::StageError;
 use std::alloc::{AllocError, AllocFailed};
 use std::io;
 
@@ -21,6 +21,8 @@ pub enum Stop {
     Line,
     /// The step is refused.
     Step,
+    /// The recursion limit is recorded.
+    Limit,
 }
 
 impl Stop {
@@ -34,6 +36,7 @@ impl Stop {
             Stop::Entity => "no entity\n",
             Stop::Line => "the line of the stage before can not be read\n",
             Stop::Step => "the step is refused\n",
+            Stop::Limit => "the recursion limit is recorded\n",
         }
     }
 }
@@ -56,14 +59,15 @@ impl From<io::Error> for Stop {
     }
 }
 
-impl From<ReauthorizationError> for Stop {
-    fn from(error: ReauthorizationError) -> Stop {
+impl From<StageError> for Stop {
+    fn from(error: StageError) -> Stop {
         match error {
-            ReauthorizationError::Memory(_) => Stop::Memory,
-            other => {
-                drop(other);
+            StageError::LimitIsRecorded => Stop::Limit,
+            StageError::Refused(refused) => {
+                drop(refused);
                 Stop::Step
             }
+            StageError::Memory(_) => Stop::Memory,
         }
     }
 }
