@@ -93,7 +93,9 @@ is_bool b t = is_bool_in b (literal_in t)
 
 -- it has no scope: its constraints are all `true`
 abbrev pub has_no_scope : PolicyView → Bool
-has_no_scope p = is_bool true p.principal_constraint && (is_bool true p.action_constraint && is_bool true p.resource_constraint)
+has_no_scope p =
+    is_bool true p.principal_constraint
+    && (is_bool true p.action_constraint && is_bool true p.resource_constraint)
 
 -- its condition is `true` where it is satisfied, `false` where it is not, and else holds an unknown
 abbrev pub fits : Report → Term → Bool

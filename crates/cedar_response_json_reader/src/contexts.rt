@@ -107,7 +107,8 @@ fn as_written(
     extensions: &Extensions<'_>,
     limit: usize,
 ) -> Result<Option<Context>, ResponseJsonError>
-    requires { IsCreated (extensions_view extensions.now) (calls_of extensions.now) limit (restricted_term expr) (Ok context) }
+    requires { IsCreated (extensions_view extensions.now) (calls_of extensions.now) limit (restricted_term expr)
+        (Ok context) }
     ensures said { IfOk result (λ c. IsRecordOf (extensions_view extensions.now) (calls_of extensions.now) limit
         (restricted_term expr) (context_given c)) }
     ensures refused { IfErr result (IsWhyNone (extensions_view extensions.now) (calls_of extensions.now) limit

@@ -64,7 +64,8 @@ fn all_once(
     rows: Vec<(Report, Policy)>,
 ) -> Result<Vec<(Report, Policy)>, ResponseJsonError>
     ensures said { IfOk result
-        (λ rs. says.once (says.repeated_in rows.items) (map says.held_row rows.items) ≡ Ok (map says.held_row rs.items)) }
+        (λ rs. says.once (says.repeated_in rows.items) (map says.held_row rows.items)
+        ≡ Ok (map says.held_row rs.items)) }
     ensures refused { IfErr result
         (IsRefusal (says.once (says.repeated_in rows.items) (map says.held_row rows.items))) }
     ensures apart { IfOk result (λ rs. says.repeated_in rs.items ≡ None) }

@@ -61,9 +61,11 @@ pub fn whole_response_from_json_str(
     limit: usize,
 ) -> Result<PartialResponse, ResponseJsonError>
     ensures said { IfOk result (λ r. SaysSo text.now (λ j. says.Reads (extensions_view extensions.now)
-        (calls_of extensions.now) limit (says.response_said (knowledge functions.now) limit (names_of extensions.now) j) r)) }
+        (calls_of extensions.now) limit
+        (says.response_said (knowledge functions.now) limit (names_of extensions.now) j) r)) }
     ensures refused { IfErr result (IsTextRefusal text.now (λ j. says.IsWhyNotRead (extensions_view extensions.now)
-        (calls_of extensions.now) limit (says.response_said (knowledge functions.now) limit (names_of extensions.now) j))) }
+        (calls_of extensions.now) limit
+        (says.response_said (knowledge functions.now) limit (names_of extensions.now) j))) }
 {
     let mut scratch = Scratch::new(alloc);
     match parse_json(alloc, text, &mut scratch) {
@@ -214,7 +216,8 @@ fn request_and_reports(
           (entry_view r.0.0, (entry_view r.0.1.0, (entry_view r.0.1.1.0, view r.0.1.1.1))),
           (map held_row r.1.0.items, errors_view r.1.1.items),
         )) }
-    ensures refused { IfErr result (IsRefusal (says.request_and_reports (knowledge functions.now) limit (value_view json.now))) }
+    ensures refused { IfErr result
+        (IsRefusal (says.request_and_reports (knowledge functions.now) limit (value_view json.now))) }
     ensures apart { IfOk result (λ r. repeated_in r.1.0.items ≡ None) }
 {
     match parts(alloc, json, functions, limit) {
@@ -259,7 +262,8 @@ fn action_and_others(
 ) -> Result<(EntityUIDEntry, (EntityUIDEntry, Expr)), ResponseJsonError>
     ensures said { IfOk result (λ r. says.action_and_others (knowledge functions.now) limit (value_view json.now)
         ≡ Ok (entry_view r.0, (entry_view r.1.0, view r.1.1))) }
-    ensures refused { IfErr result (IsRefusal (says.action_and_others (knowledge functions.now) limit (value_view json.now))) }
+    ensures refused { IfErr result
+        (IsRefusal (says.action_and_others (knowledge functions.now) limit (value_view json.now))) }
 {
     match entry_at(alloc, json, Var::Action, functions, limit) {
         Ok(action) => match resource_and_context(alloc, json, functions, limit) {
@@ -281,7 +285,8 @@ fn resource_and_context(
 ) -> Result<(EntityUIDEntry, Expr), ResponseJsonError>
     ensures said { IfOk result (λ r. says.resource_and_context (knowledge functions.now) limit (value_view json.now)
         ≡ Ok (entry_view r.0, view r.1)) }
-    ensures refused { IfErr result (IsRefusal (says.resource_and_context (knowledge functions.now) limit (value_view json.now))) }
+    ensures refused { IfErr result
+        (IsRefusal (says.resource_and_context (knowledge functions.now) limit (value_view json.now))) }
 {
     match entry_at(alloc, json, Var::Resource, functions, limit) {
         Ok(resource) => match context_at(alloc, json, functions, limit) {
@@ -303,7 +308,8 @@ fn reports(
 ) -> Result<Reports, ResponseJsonError>
     ensures said { IfOk result (λ r. says.reports_said (knowledge functions.now) limit (value_view json.now)
         ≡ Ok (map held_row r.0.items, errors_view r.1.items)) }
-    ensures refused { IfErr result (IsRefusal (says.reports_said (knowledge functions.now) limit (value_view json.now))) }
+    ensures refused { IfErr result
+        (IsRefusal (says.reports_said (knowledge functions.now) limit (value_view json.now))) }
     ensures apart { IfOk result (λ r. repeated_in r.0.items ≡ None) }
 {
     match rows_at(alloc, json, functions, limit) {
@@ -331,7 +337,8 @@ fn made(
     requires { repeated_in reports.0.items ≡ None }
     ensures read { IfOk result (says.IsRead (extensions_view extensions.now) (calls_of extensions.now) limit
         (told (mode_view mode) parts reports)) }
-    ensures refused { IfErr result (IsWhyNone (extensions_view extensions.now) (calls_of extensions.now) limit (view parts.1.1.1)) }
+    ensures refused { IfErr result
+        (IsWhyNone (extensions_view extensions.now) (calls_of extensions.now) limit (view parts.1.1.1)) }
 {
     match request_of(alloc, parts, extensions, limit) {
         Ok(request) => match response_to(alloc, mode, request, reports) {
@@ -352,7 +359,8 @@ fn request_of(
     limit: usize,
 ) -> Result<Request, ResponseJsonError>
     ensures request { IfOk result (IsRequestOf (extensions_view extensions.now) (calls_of extensions.now) limit parts) }
-    ensures refused { IfErr result (IsWhyNone (extensions_view extensions.now) (calls_of extensions.now) limit (view parts.1.1.1)) }
+    ensures refused { IfErr result
+        (IsWhyNone (extensions_view extensions.now) (calls_of extensions.now) limit (view parts.1.1.1)) }
 {
     let (principal, (action, (resource, context))) = parts;
     match context_of(alloc, context, extensions, limit) {

@@ -76,7 +76,8 @@ module _ {X : Type 0} {F : X → Type 0} {g : _} where
     pub steps_are : steps_of s ≡ []
 
   -- one step more, with these values over this store, from a response without the recursion limit
-  pub record GoesOn (old : Resumed X F g) (values : ValuesByName) (entities : Entities) (new : Resumed X F g) : Type 0 where
+  pub record GoesOn (old : Resumed X F g) (values : ValuesByName) (entities : Entities) (new : Resumed X F g)
+      : Type 0 where
     pub authorizer_is : authorizer_of new ≡ authorizer_of old
     pub first_is : first_of new ≡ first_of old
     pub steps_are : steps_of new
