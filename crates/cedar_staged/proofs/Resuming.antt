@@ -58,11 +58,11 @@ from_said c m store r last x says h =
     same_step c m store (response_said r) last (sym says.mode_is) (sym says.request_is) (same_carried last.rows (rows_view r) (same_rows last.rows r says.held)) x h
 
 -- a store without entities
-empty : Store
+abbrev empty : Store
 empty = record { entity = λ e. None; is_partial = false }
 
 module _ {X : Type 0} {F : X → Type 0} {g : _} (a : Authorizer X F g) (r : PartialResponse) where
-  bare : Setting
+  abbrev bare : Setting
   bare = asked_of (configuration a) (request_view (request_of r)) empty
 
   pub one_more : (steps : List ChainStep) (step : Mapping × Store) (last n : PartialResponse) → IsTakenFurther (configuration a) steps r (Ok last) → has_limit (errors_of last) ≡ false
