@@ -15,6 +15,7 @@ use std::collections::HashMap;
 use std::rc::RcStr;
 
 /// What each stage has: the extensions, and its own store.
+#[derive(Clone, Copy)]
 pub struct Stage<'x> {
     /// The extensions, the same ones everywhere.
     pub extensions: &'x Extensions<'x>,
