@@ -4,5 +4,5 @@ use Rattle.cedar_staged.proofs.resumed.Resumed.resume.Goals as goal
 
 pub invariant_of-result : goal.invariant_of-result
 invariant_of-result g c = record {
-  chain = kept_first c.args.authorizer.now c.args.response c.in_ok-first.first.value c.in-Ok.response.value c.new-2.result.items c.in_ok-first.ensures (c.in-Ok.ensures.cases ∙ c.in_ok-first.ensures) c.new-2.ensures.items;
+  chain = kept_first c.args.authorizer.now c.args.response c.in_ok-first.first.value c.in-Ok.response.value c.new-in-Ok.result.items c.in_ok-first.ensures (c.in-Ok.ensures.cases ∙ c.in_ok-first.ensures) c.new-in-Ok.ensures.items;
 }

@@ -1,5 +1,8 @@
 use Rattle.std.proofs.Common.{refl}
 use Rattle.cedar_staged.proofs.resumed.Resumed.take.Goals as goal
 
-pub returns-in-Err-clause-unchanged : goal.returns-in-Err-clause-unchanged
-returns-in-Err-clause-unchanged g c = (refl, refl, refl, refl)
+pub returns-clause-unchanged : goal.returns-clause-unchanged
+returns-clause-unchanged g c = (refl, refl, refl, refl)
+
+pub returns-in-Ok-clause-unchanged : goal.returns-in-Ok-clause-unchanged
+returns-in-Ok-clause-unchanged g c = c.take_shared.ensures.unchanged
