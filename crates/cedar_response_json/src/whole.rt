@@ -9,7 +9,8 @@ ghost use Rattle.cedar_authorizer.specs.responses.Rows.{mode_of, rows_view};
 ghost use Rattle.cedar_requests.specs.Requests.{request_view};
 ghost use Rattle.cedar_json_writer.specs.Trees.{json_view, members_seen};
 ghost use Rattle.cedar_response_json.specs.Extensions.{names_of};
-ghost use Rattle.cedar_response_json.specs.Responses.{mode_member, names_member, rows_member, IsWritten, AddsErrors};
+ghost use Rattle.cedar_response_json.specs.Responses.{mode_member, mode_word, names_member, rows_member, IsWritten};
+ghost use Rattle.cedar_response_json.specs.Responses.{AddsErrors};
 
 use crate::errors::errors_to_json;
 use crate::extensions::extensions_to_json;
@@ -53,9 +54,17 @@ fn put_mode(
     ensures { OnOk result
         (members_seen members.new.items ≡ members_seen members.old.items ++ mode_member (mode_view mode) ∷ []) }
 {
+    put_text(alloc, "errorHandling", mode_word(mode), members)?;
+    Ok(())
+}
+
+// The word for how errors are handled.
+fn mode_word(mode: ErrorHandling) -> &'static str
+    ensures { result.now ≡ mode_word (mode_view mode) }
+{
     match mode {
-        ErrorHandling::Skip => put_text(alloc, "errorHandling", "skip", members),
-        ErrorHandling::ForbidOnError => put_text(alloc, "errorHandling", "forbidOnError", members),
+        ErrorHandling::Skip => "skip",
+        ErrorHandling::ForbidOnError => "forbidOnError",
     }
 }
 
