@@ -2,9 +2,9 @@
 use Rattle.std.specs.Prelude.{◌≡◌, Bool, true, false, List, [], ◌∷◌, ◌++◌, map, codes}
 use Rattle.json.specs.Json.{Json, string, array}
 use Rattle.json.specs.Value.{items_of}
-use Rattle.cedar_model.specs.Terms.{Text, Variable, principal, action, resource, context}
+use Rattle.cedar_model.specs.Terms.{Text, principal, action, resource, context}
 use Rattle.cedar_model.specs.Agreement.{no_slots}
-use Rattle.cedar_model.specs.Failures.{Failure}
+use Rattle.cedar_model.specs.Failures.{Failure, PartialValue}
 use Rattle.cedar_model.specs.Settings.{RequestPart, variable_part}
 use Rattle.cedar_model.specs.Policies.{ErrorHandling, skip, forbid_on_error}
 use Rattle.cedar_model.specs.Responses.{Row, Reported, reported_true, reported_false, reported_residual}
@@ -31,14 +31,20 @@ names_member names = (codes "extensions", texts_json names)
 
 -- ---- the request
 
--- what a variable answers, as an expression: its value, or its unknown with the type that is known
-abbrev pub variable_json : RequestPart → Variable → Json
-variable_json r v = expression_json no_slots (partial_term (variable_part r v))
+-- a value, or a residual, as an expression: of an unknown its name and the type that is known
+abbrev pub part_json : PartialValue → Json
+part_json p = expression_json no_slots (partial_term p)
 
+abbrev pub four_parts : PartialValue → PartialValue → PartialValue → PartialValue → List (Text × Json)
+four_parts p a r c =
+    (codes "principal", part_json p) ∷ (codes "action", part_json a) ∷ (codes "resource", part_json r)
+    ∷ (codes "context", part_json c) ∷ []
+
+-- what the four variables answer, each under its name
 abbrev pub request_members : RequestPart → List (Text × Json)
 request_members r =
-    (codes "principal", variable_json r principal) ∷ (codes "action", variable_json r action)
-    ∷ (codes "resource", variable_json r resource) ∷ (codes "context", variable_json r context) ∷ []
+    four_parts (variable_part r principal) (variable_part r action) (variable_part r resource)
+    (variable_part r context)
 
 -- ---- what is reported of policies
 

@@ -2,12 +2,14 @@
 //! What the variables of a request answer.
 ghost use Rattle.std.specs.Prelude.{◌≡◌, [], ◌∷◌, ◌++◌, IfOk, OnOk};
 ghost use Rattle.cedar_model.specs.Agreement.{no_slots};
+ghost use Rattle.cedar_model.specs.Settings.{variable_part};
+ghost use Rattle.cedar_model.specs.Terms.{principal, action, resource, context};
 ghost use Rattle.cedar_expressions.specs.View.{view};
 ghost use Rattle.cedar_values.specs.Residuals.{partial_view, partial_term};
 ghost use Rattle.cedar_requests.specs.Requests.{request_view};
 ghost use Rattle.cedar_json_writer.specs.Trees.{json_view, members_seen};
 ghost use Rattle.cedar_policy_json_writer.specs.Expressions.{expression_json};
-ghost use Rattle.cedar_response_json.specs.Responses.{request_members};
+ghost use Rattle.cedar_response_json.specs.Responses.{request_members, four_parts};
 
 use cedar_expressions::Expr;
 use cedar_json_writer::{JsonValue, put_member};
@@ -26,8 +28,35 @@ pub(crate) fn put_request(
     ensures { OnOk result (members_seen members.new.items
         ≡ members_seen members.old.items ++ request_members (request_view request.now)) }
 {
+    let (principal, action, resource, context) = variable_values(alloc, request)?;
+    put_parts(alloc, principal, action, resource, context, members)?;
+    Ok(())
+}
+
+fn variable_values(
+    alloc: Global,
+    request: &Request,
+) -> Result<(PartialValue, PartialValue, PartialValue, PartialValue), AllocError>
+    ensures principal { IfOk result (λ p. partial_view p.0 ≡ variable_part (request_view request.now) principal) }
+    ensures action { IfOk result (λ p. partial_view p.1 ≡ variable_part (request_view request.now) action) }
+    ensures resource { IfOk result (λ p. partial_view p.2 ≡ variable_part (request_view request.now) resource) }
+    ensures context { IfOk result (λ p. partial_view p.3 ≡ variable_part (request_view request.now) context) }
+{
     let copy = request.clone()?;
-    let (principal, action, resource, context) = copy.variable_values(alloc)?;
+    copy.variable_values(alloc)
+}
+
+fn put_parts(
+    alloc: Global,
+    principal: PartialValue,
+    action: PartialValue,
+    resource: PartialValue,
+    context: PartialValue,
+    members: &mut Vec<(RcStr, JsonValue)>,
+) -> Result<(), AllocError>
+    ensures { OnOk result (members_seen members.new.items ≡ members_seen members.old.items
+        ++ four_parts (partial_view principal) (partial_view action) (partial_view resource) (partial_view context)) }
+{
     put_part(alloc, "principal", principal, members)?;
     put_part(alloc, "action", action, members)?;
     put_part(alloc, "resource", resource, members)?;
