@@ -1,4 +1,4 @@
-#![tactic(auto, using(cedar_json_writer::proofs::Trees::trees))]
+#![tactic(auto, using(cedar_json_writer::proofs::Trees::trees), unfolding(cedar_model::specs::Responses::clause_of))]
 //! What is reported of policies.
 ghost use Rattle.std.specs.Prelude.{◌≡◌, [], ◌∷◌, ◌++◌, map, IfOk, OnOk};
 ghost use Rattle.json.specs.Json.{string};
@@ -118,7 +118,8 @@ fn put_true(
         ++ row_json (rows.located_true (effect_view effect) (id.now, annotations.now)).row ∷ []) }
 {
     let clause = truth(alloc, true)?;
-    put_reported(alloc, effect, id, "satisfied", clause, annotations, items)
+    put_reported(alloc, effect, id, "satisfied", clause, annotations, items)?;
+    Ok(())
 }
 
 fn put_false(
@@ -140,7 +141,8 @@ fn put_false(
         clause,
         &state.1,
         items,
-    )
+    )?;
+    Ok(())
 }
 
 fn put_residual(
@@ -154,7 +156,8 @@ fn put_residual(
         ++ row_json (rows.located_residual (effect_view effect) (id.now, residual.now)).row ∷ []) }
 {
     let clause = residual.0.clone()?;
-    put_reported(alloc, effect, id, "residual", clause, &residual.1, items)
+    put_reported(alloc, effect, id, "residual", clause, &residual.1, items)?;
+    Ok(())
 }
 
 // The word of a policy that is not satisfied.
