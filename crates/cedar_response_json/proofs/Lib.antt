@@ -1,3 +1,4 @@
 pub mod Listed
 pub mod Parts
+pub mod Rows
 pub mod Told
