@@ -6,5 +6,5 @@ use Rattle.cedar_response_json.proofs.policies.put_residual.Goals as goal
 
 pub returns : goal.returns
 returns c =
-    put_row _ _ c.args.effect c.args.id.now _ _ (reported_residual (view c.args.residual.now.0.value)) c.in_ok-put_reported.ensures
+    put_row _ _ c.args.effect c.args.id.now c.args.residual.now.1.value c.in_ok-clause.clause.value (reported_residual (view c.args.residual.now.0.value)) c.in_ok-put_reported.ensures
     (ap view c.in_ok-clause.ensures.cases ∙ clause_residual (view c.args.residual.now.0.value))

@@ -4,4 +4,4 @@ use Rattle.cedar_response_json.proofs.Rows.{put_row, clause_true}
 use Rattle.cedar_response_json.proofs.policies.put_true.Goals as goal
 
 pub returns : goal.returns
-returns c = put_row _ _ c.args.effect c.args.id.now _ _ reported_true c.in_ok-put_reported.ensures (c.in_ok-clause.ensures ∙ clause_true)
+returns c = put_row _ _ c.args.effect c.args.id.now c.args.annotations.now.value c.in_ok-clause.clause.value reported_true c.in_ok-put_reported.ensures (c.in_ok-clause.ensures ∙ clause_true)
