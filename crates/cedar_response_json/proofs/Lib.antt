@@ -2,3 +2,4 @@ pub mod Listed
 pub mod Parts
 pub mod Rows
 pub mod Told
+pub mod Six

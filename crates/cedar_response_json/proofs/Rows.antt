@@ -1,7 +1,7 @@
 -- What is put of a row is its JSON.
 use Rattle.std.proofs.Common.{◌≡◌, true, List, [], ◌∷◌, ◌++◌, refl, ap, ◌∙◌}
 use Rattle.json.specs.Json.{Json}
-use Rattle.cedar_model.specs.Terms.{Text, Term, literal, bool_literal}
+use Rattle.cedar_model.specs.Terms.{Term, literal, bool_literal}
 use Rattle.cedar_model.specs.Agreement.{no_slots}
 use Rattle.cedar_model.specs.Responses.{Reported, reported_true, reported_residual, clause_of}
 use Rattle.cedar_expressions.specs.declared.expr.Expr.{Expr}
@@ -9,7 +9,7 @@ use Rattle.cedar_expressions.specs.View.{view}
 use Rattle.cedar_layers.specs.declared.policies.policy.Annotations.{Annotations}
 use Rattle.cedar_layers.specs.declared.policies.policy.Effect.{Effect}
 use Rattle.cedar_layers.specs.declared.policies.policy.PolicyID.{PolicyID}
-use Rattle.cedar_layers.specs.Policies.{PolicyView, policy_when, policy_id_text, annotations_view, effect_view}
+use Rattle.cedar_layers.specs.Policies.{policy_when, policy_id_text, annotations_view, effect_view}
 use Rattle.cedar_response_json.specs.Responses.{reported_json, report_word, row_json}
 
 pub clause_true : literal (bool_literal true) ≡ clause_of reported_true

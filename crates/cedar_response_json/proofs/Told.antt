@@ -1,5 +1,5 @@
 -- Errors that are told by their kind.
-use Rattle.std.proofs.Common.{◌≡◌, Result, Ok, Err, sym, ◌∙◌, ap}
+use Rattle.std.proofs.Common.{Result, Ok, Err}
 use Rattle.std.specs.Prelude.{IfOk, codes}
 use Rattle.std.specs.declared.alloc.AllocError.{AllocError}
 use Rattle.cedar_model.specs.Terms.{Text}
@@ -11,7 +11,7 @@ use Rattle.cedar_errors.specs.declared.evaluator.err.evaluation_errors.IntegerOv
 use Rattle.cedar_errors.specs.declared.evaluator.err.evaluation_errors.IntegerOverflowError.TheVariants as overflows
 use Rattle.cedar_json_writer.specs.declared.tree.JsonValue.{JsonValue}
 use Rattle.cedar_json_writer.specs.Trees.{json_view}
-use Rattle.cedar_response_json.specs.Errors.{IsErrorJson, ToldAs, Says, kind_word, told_json}
+use Rattle.cedar_response_json.specs.Errors.{IsErrorJson, ToldAs, Says, kind_word}
 
 -- whatever it says
 pub told_any : (id : Text) (f : Failure) (x : Result JsonValue AllocError) → ((t : Text) → Says f t) → IfOk x (ToldAs id (kind_word f)) → IfOk x (λ j. IsErrorJson (id, f) (json_view j))
