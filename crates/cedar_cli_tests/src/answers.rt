@@ -16,12 +16,14 @@ use cedar_policy_core::entities::Entities;
 use cedar_policy_core::extensions::Extensions;
 use cedar_regression::answer_of;
 use std::alloc::Global;
+use std::io::Stderr;
 
-/// The policies that are tested, and in which way they are asked.
+/// The policies that are tested, in which way they are asked, and where it is told how far that is, if anywhere.
 #[derive(Clone, Copy)]
 pub(crate) struct Tested<'p> {
     pub(crate) policies: &'p PolicySet,
     pub(crate) way: Way,
+    pub(crate) terminal: Option<Stderr>,
 }
 
 /// What the policies answer to the request, over these entities or, where there are none, over the store that is given.

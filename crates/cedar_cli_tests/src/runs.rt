@@ -15,6 +15,7 @@ ghost use Rattle.cedar_cli_tests.specs.Results.{IsUntestedBy};
 
 use crate::answers::Tested;
 use crate::one::run_test;
+use crate::progress::{end_progress, tell_progress};
 use crate::results::Results;
 use cedar_cli::{
     Asked, Printed, Refusal, Source, Way, given_store, read_over, refuse_with_line, tell_templates,
@@ -30,11 +31,12 @@ use cedar_policy_core::parser::laws::known_calls_of_policies;
 use cedar_policy_tests::{PolicyTest, TestsError, fault_in, parse_tests, tests_in};
 use json::{Scratch, Value};
 use std::alloc::{AllocError, Global};
+use std::io::Stderr;
 
 /// The tests, an array in JSON, that the policies fail: in their order a line of JSON for each to which they answer
 /// otherwise than it expects, with what differs, or that can't be asked, with the reason; and behind them one of how many
 /// pass and fail. A test is asked over its own entities, or over those that are given. The exit status is 1 where a test
-/// fails, and else 0. Templates, which decide nothing, are told as warnings. Refused where policies or entities can't be
+/// fails, and else 0. How far a long run is, is told on the terminal, if there is one. Templates, which decide nothing, are told as warnings. Refused where policies or entities can't be
 /// read, and where the text is no array of tests.
 pub fn run_tests(
     alloc: Global,
@@ -42,6 +44,7 @@ pub fn run_tests(
     asked: &Asked<'_, '_>,
     tests: Source<'_>,
     way: Way,
+    terminal: Option<Stderr>,
 ) -> Result<Printed, Refusal>
     ensures tested { IfOk result (IsTested policies.entry.text.now asked.now tests.entry.text.now way) }
     ensures refused { IfErr result (IsToldFor
@@ -55,6 +58,7 @@ pub fn run_tests(
     let tested = Tested {
         policies: &parsed.policies,
         way,
+        terminal,
     };
     let printed = run_read(alloc, tested, asked, tests, &extensions, warnings);
     drop(parsed);
@@ -185,6 +189,7 @@ fn run_all(
     ensures refused { IfErr result (IsToldFor ⊥) }
 {
     let results = run_each(alloc, tested, store, asked, &tests, extensions);
+    end_progress(tested.terminal, tests.len());
     drop(tests);
     let all = results?;
     let printed = all.print(alloc, warnings)?;
@@ -208,6 +213,7 @@ fn run_each(
     'tests: for i in 0..tests.len() {
         let one = run_test(alloc, tested, store, asked, tests[i], i + 1, extensions)?;
         results.put(one)?;
+        tell_progress(tested.terminal, i + 1, tests.len());
     }
     Ok(results)
 }
