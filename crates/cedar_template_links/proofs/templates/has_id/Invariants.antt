@@ -1,7 +1,7 @@
 use Rattle.std.proofs.Common.{◌≡◌, map, drop}
 use Rattle.cedar_layers.specs.Policies.{policy_view, policy_id_text}
-use Rattle.cedar_policy_set_reader.specs.PolicySets.{has_id}
-use Rattle.cedar_policy_set_reader.proofs.ids.has_id.Given as goal
+use Rattle.cedar_template_links.specs.Linking.{has_id}
+use Rattle.cedar_template_links.proofs.templates.has_id.Given as goal
 
 abbrev pub invariant-policies : goal.invariant-policies
 invariant-policies l =
