@@ -2,7 +2,9 @@
 use Rattle.std.proofs.Common.{◌≡◌, refl, sym, ap, ◌∙◌, subst, Bool, true, false, ◌↔◌, List, [], ◌∷◌, ◌++◌, append_assoc, append-nil, map, Option, None, Some, if◌then◌else◌}
 use Rattle.std.proofs.lemmas.Bool.{both_ways}
 use Rattle.std.specs.List.{AllZip, list_any}
-use Rattle.std.specs.Prelude.{⊤}
+use Rattle.std.specs.Prelude.{⊤, IfOk, Result}
+use Rattle.std.specs.declared.alloc.Global.{Global}
+use Rattle.std.specs.declared.vec.Vec.{Vec}
 use Rattle.cedar_model.specs.Terms.{EntityName}
 use Rattle.cedar_model.specs.Outcomes.{entity_eq}
 use Rattle.cedar_model.specs.Settings.{is_among}
@@ -13,6 +15,7 @@ use Rattle.cedar_layers.specs.declared.policies.entities.Entity.{Entity}
 use Rattle.cedar_layers.specs.Stores.{Standing, none_stands, standing_with, standing_with_each, last_of_each_name, entity_name, entity_ancestors}
 use Rattle.cedar_layers.proofs.Stores.{last_is_named, list_any-uids}
 use Rattle.cedar_names.proofs.Among.{is_among-none}
+use Rattle.cedar_hierarchy.specs.declared.error.ClosureError.{ClosureError}
 use Rattle.cedar_hierarchy.specs.Paths.{Parentage, Leads, AreLedTo}
 use Rattle.cedar_hierarchy.specs.Ancestry.{recorded, parents_of, KeepsParts, AreAlike, IsClosed}
 use Rattle.cedar_hierarchy.proofs.Walking.{leads_nowhere}
@@ -122,3 +125,9 @@ module _ (listed : Parentage) (ds es : List Entity) (stored : Standing) (recorde
 
   pub has_no_cycle : (n : EntityName) → ¬ Leads (parents_of ds) n n
   has_no_cycle n = (has_each n).acyclic
+
+-- the same of entities that are closed by the parents that a map lists, where there is no refusal
+pub closed_by_own : (listed : Parentage) (ds : List Entity) (r : Result (Vec Entity Global) ClosureError) → listed ≡ parents_of ds → IfOk r (λ v. AllZip (IsClosed listed) ds v.items) → IfOk r (λ v. AllZip (IsClosed (parents_of ds)) ds v.items)
+closed_by_own listed ds r recorded_so closed =
+    let each : Parentage → Type 0 = λ parents. IfOk r (λ v. AllZip (IsClosed parents) ds v.items) in
+    subst each recorded_so closed

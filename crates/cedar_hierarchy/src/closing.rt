@@ -32,9 +32,19 @@ pub fn close_hierarchy(alloc: Global, entities: Vec<Entity>) -> Result<Entities,
     ensures acyclic { OnOk result ((n : EntityName) → ¬ Leads (parents_of entities.items) n n) }
     ensures cycle { IfErr result (NamesACycle (parents_of entities.items)) }
 {
-    let parents = recorded_parents(alloc, &entities)?;
-    let each = close_each(alloc, &parents, entities)?;
+    let each = close_entities(alloc, entities)?;
     Ok(Entities::with(alloc, each, false)?)
+}
+
+/// These entities in their order, each as `close_hierarchy` has it: its recorded ancestors, which are taken to be its
+/// parents, with all that parents lead to. For a store that has more beside them, as one over another. Refuses as
+/// `close_hierarchy` does.
+pub fn close_entities(alloc: Global, entities: Vec<Entity>) -> Result<Vec<Entity>, ClosureError>
+    ensures each { IfOk result (λ v. AllZip (IsClosed (parents_of entities.items)) entities.items v.items) }
+    ensures cycle { IfErr result (NamesACycle (parents_of entities.items)) }
+{
+    let parents = recorded_parents(alloc, &entities)?;
+    close_each(alloc, &parents, entities)
 }
 
 /// Each of these entities with all its ancestors.

@@ -30,6 +30,6 @@ mod parents;
 mod partial;
 mod walk;
 
-pub use closing::close_hierarchy;
+pub use closing::{close_entities, close_hierarchy};
 pub use error::ClosureError;
 pub use partial::{PartialClosure, close_hierarchy_partially};

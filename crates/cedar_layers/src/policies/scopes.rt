@@ -19,6 +19,17 @@ use cedar_expressions::Expr;
 use cedar_names::{BinaryOp, EntityType, EntityUID, Literal, SlotEnv, Var};
 use std::alloc::{AllocError, Global};
 
+impl Policy {
+    /// The actions that the scope names, in its order: the one of `action == a` or of `action in a`, and each of
+    /// `action in [a, b]`. None where it asks for no action. Refuses only if out of memory.
+    pub fn named_actions(&self, alloc: Global) -> Result<Option<Vec<&EntityUID>>, AllocError>
+        ensures { IfOk result (λ o.
+            names_found o ≡ asked_entities (policy_view self.now).slots (policy_view self.now).action_constraint) }
+    {
+        asked_entities(alloc, self.env(), self.action_constraint())
+    }
+}
+
 // The entities, one of which the policy's scope asks for: as the principal, or else as the resource, or else as the
 // action. None, where it asks for none. Refuses only if out of memory.
 pub(super) fn bound_to(
