@@ -49,7 +49,7 @@ text_linked k limit text links new parsed read h = record {
   back = h.back;
 }
 
-unmade_here : (k : Knowledge) (limit : ℕ) (text links : Text) (parsed : ParsedPolicies) (e : PolicyJsonError)
+pub unmade_here : (k : Knowledge) (limit : ℕ) (text links : Text) (parsed : ParsedPolicies) (e : PolicyJsonError)
     → AreAllRead k text limit parsed → IsUnmadeOf parsed links e → IsUnmade k limit text links e
 unmade_here k limit text links parsed e read (unlisted_of h) = unlisted h
 unmade_here k limit text links parsed e read (unmade_of listed h) = unmade read listed h

@@ -1,6 +1,6 @@
 #![tactic(auto, using(crate::proofs::Adding::adding))]
 //! A link that is added behind those of a file.
-ghost use Rattle.std.specs.Prelude.{◌≡◌, ◌∷◌, [], map, IfOk, string_bytes};
+ghost use Rattle.std.specs.Prelude.{◌≡◌, ◌∷◌, [], map, IfOk, IfErr, string_bytes};
 ghost use Rattle.cedar_functions.specs.Functions.{knowledge};
 ghost use Rattle.cedar_layers.specs.Policies.{policy_view};
 ghost use Rattle.cedar_policy_json_text.specs.Kept.{ReadsBack};
@@ -42,8 +42,8 @@ pub struct AddedLink {
 }
 
 /// The policy that the link makes of a template of this text, behind the links that the other text lists, and the list
-/// with that link. Refuses as `linked_to_text` does, and where the link that is asked for makes no policy (`NewLink`, with
-/// the way from the link, or from its arguments, on).
+/// with that link. Refuses as `linked_to_text` does, and where the link that is asked for can't be read or makes no policy
+/// (`NewLink`, with the way from its arguments, or from the link, on).
 pub fn add_link(
     alloc: Global,
     text: &str,
@@ -53,7 +53,9 @@ pub fn add_link(
     limit: usize,
 ) -> Result<AddedLink, LinkedTextError>
     ensures policy { IfOk result (λ a. texts.IsAdded (knowledge functions.now) limit text.now links.now
-        new.entry.template_id.now new.entry.new_id.now (string_bytes a.policy)) }
+        (texts.asked_view new.entry) (string_bytes a.policy)) }
+    ensures refused { IfErr result
+        (texts.IsNotAdded (knowledge functions.now) limit text.now links.now (texts.asked_view new.entry)) }
 {
     match parse_policies(alloc, text, limit, functions) {
         Ok(parsed) => {
@@ -74,7 +76,8 @@ fn add_to_parsed(
     limit: usize,
 ) -> Result<AddedLink, LinkedTextError>
     ensures policy { IfOk result (λ a. texts.IsAddedTo (knowledge functions.now) limit parsed.now links.now
-        new.entry.template_id.now new.entry.new_id.now (string_bytes a.policy)) }
+        (texts.asked_view new.entry) (string_bytes a.policy)) }
+    ensures refused { IfErr result (texts.IsRefusedByParsed parsed.now links.now (texts.asked_view new.entry)) }
 {
     match all_named(alloc, parsed, links) {
         Ok(named) => {
@@ -93,8 +96,10 @@ fn add_to_named(
     functions: &Functions,
     limit: usize,
 ) -> Result<AddedLink, LinkedTextError>
-    ensures policy { IfOk result (λ a. texts.IsAddedToNamed (knowledge functions.now) limit
-        (texts.named_set named.now) new.entry.template_id.now new.entry.new_id.now (string_bytes a.policy)) }
+    ensures policy { IfOk result (λ a. texts.IsAddedToSet (knowledge functions.now) limit
+        (texts.named_set named.now) (texts.asked_view new.entry) (string_bytes a.policy)) }
+    ensures refused { IfErr result
+        (texts.IsRefusedBySet (texts.named_set named.now) (texts.asked_view new.entry)) }
 {
     match read_new(alloc, new) {
         Ok(link) => {
@@ -115,6 +120,8 @@ fn with_link(
 ) -> Result<AddedLink, LinkedTextError>
     ensures policy { IfOk result (λ a. texts.IsWithLink (knowledge functions.now) limit
         (texts.named_set named.now) (link_view link.now) (string_bytes a.policy)) }
+    ensures refused { IfErr result
+        (texts.IsRefusedWithLink (texts.named_set named.now) (link_view link.now)) }
 {
     let none: Vec<Policy> = Vec::new(alloc);
     match link_one(
@@ -140,6 +147,7 @@ fn with_list(
     link: &Link,
 ) -> Result<AddedLink, LinkedTextError>
     ensures policy { IfOk result (λ a. a.policy ≡ policy) }
+    ensures memory { IfErr result texts.IsMemory }
 {
     match list_text(alloc, &named.links, link) {
         Ok(list) => Ok(AddedLink { policy, list }),
@@ -159,6 +167,7 @@ fn lone_text(
 ) -> Result<String, LinkedTextError>
     ensures back { IfOk result (λ t. ReadsBack (knowledge functions.now) limit
         (texts.lone (policy_view policy)) (string_bytes t)) }
+    ensures own { IfErr result texts.IsOwnText }
 {
     match lone_set(alloc, policy) {
         Ok(set) => {
@@ -190,8 +199,8 @@ fn lone_set(alloc: Global, policy: Policy) -> Result<ReadPolicies, AllocError>
 
 // The link that is asked for.
 fn read_new(alloc: Global, new: NewLink<'_>) -> Result<Link, PolicyJsonError>
-    ensures template { IfOk result (λ l. (link_view l).template_id ≡ new.entry.template_id.now) }
-    ensures id { IfOk result (λ l. (link_view l).new_id ≡ new.entry.new_id.now) }
+    ensures asked { IfOk result (λ l. texts.IsLinkOf (texts.asked_view new.entry) (link_view l)) }
+    ensures refused { IfErr result (texts.IsNoArgument (texts.asked_view new.entry)) }
 {
     let mut scratch = Scratch::new(alloc);
     match parse_json(alloc, new.arguments, &mut scratch) {
