@@ -110,7 +110,7 @@ fn placed(alloc: Global, slots: &SlotEnv, constraint: &Expr) -> Result<Expr, All
 
 fn placed_slot(alloc: Global, slot: SlotId, entity: Option<&EntityUID>) -> Result<Expr, AllocError>
     ensures { IfOk result
-        (λ e. view e ≡ placing.placed_slot (slot_view slot) (option_map (λ u. uid_name u.now) entity)) }
+        (λ e. view e ≡ placing.placed_slot (slot_view slot) (option_map (λ u. uid_name u.now) entity.entry)) }
 {
     match entity {
         Some(uid) => {

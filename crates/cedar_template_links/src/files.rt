@@ -302,8 +302,8 @@ fn parse_text(
     key: &str,
     text: Option<&str>,
 ) -> Result<Option<EntityUID>, PolicyJsonError>
-    ensures read { IfOk result (λ u. written.AreTextOf (option_map (λ t. t.now) text) (links.name_of u)) }
-    ensures refused { IfErr result (written.IsNoEntity (option_map (λ t. t.now) text)) }
+    ensures read { IfOk result (λ u. written.AreTextOf (option_map (λ t. t.now) text.entry) (links.name_of u)) }
+    ensures refused { IfErr result (written.IsNoEntity (option_map (λ t. t.now) text.entry)) }
 {
     match text {
         Some(text) => match parse_entity_uid(alloc, text) {

@@ -214,7 +214,8 @@ fn linked_policy(
     resource: Option<&EntityUID>,
 ) -> Result<Policy, AllocError>
     ensures { IfOk result (λ p. policy_view p ≡ linked (policy_view template.now) (policy_id_text id.now)
-        (linking.slots_with (option_map (λ u. uid_name u.now) principal, option_map (λ u. uid_name u.now) resource))) }
+        (linking.slots_with (option_map (λ u. uid_name u.now) principal.entry,
+        option_map (λ u. uid_name u.now) resource.entry))) }
 {
     let env = slot_env(alloc, principal, resource)?;
     let id: PolicyID = id.clone()?;
@@ -229,7 +230,7 @@ fn slot_env(
     resource: Option<&EntityUID>,
 ) -> Result<SlotEnv, AllocError>
     ensures { IfOk result (λ e. slots_view e ≡ linking.slots_with
-        (option_map (λ u. uid_name u.now) principal, option_map (λ u. uid_name u.now) resource)) }
+        (option_map (λ u. uid_name u.now) principal.entry, option_map (λ u. uid_name u.now) resource.entry)) }
 {
     let mut env = SlotEnv::new(alloc);
     fill_slot(SlotId::Principal, principal, &mut env)?;
@@ -240,7 +241,7 @@ fn slot_env(
 // Puts the entity into the slot, where there is one.
 fn fill_slot(slot: SlotId, uid: Option<&EntityUID>, env: &mut SlotEnv) -> Result<(), AllocError>
     ensures { OnOk result (slots_view env.new
-        ≡ linking.with_value (slot_view slot) (option_map (λ u. uid_name u.now) uid) (slots_view env.old)) }
+        ≡ linking.with_value (slot_view slot) (option_map (λ u. uid_name u.now) uid.entry) (slots_view env.old)) }
 {
     match uid {
         Some(uid) => {
