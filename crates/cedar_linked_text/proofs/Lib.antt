@@ -1,3 +1,3 @@
-pub mod Lists
+pub mod ListTexts
 pub mod Linked
-pub mod Adding
+pub mod Added

@@ -1,4 +1,4 @@
-#![tactic(auto, using(crate::proofs::Adding::adding))]
+#![tactic(auto, using(crate::proofs::Added::adding))]
 //! A link that is added behind those of a file.
 ghost use Rattle.std.specs.Prelude.{◌≡◌, ◌∷◌, [], map, IfOk, IfErr, string_bytes};
 ghost use Rattle.cedar_functions.specs.Functions.{knowledge};

@@ -1,4 +1,4 @@
-#![tactic(auto, using(crate::proofs::Lists::lists))]
+#![tactic(auto, using(crate::proofs::ListTexts::lists))]
 //! Files of links.
 ghost use Rattle.std.specs.Prelude.{map, IfOk, IfErr};
 ghost use Rattle.cedar_template_links.specs.Links.{link_view};

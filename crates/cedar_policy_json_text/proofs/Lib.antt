@@ -1,5 +1,5 @@
 pub mod Naming
 pub mod Keeping
 pub mod Backs
-pub mod Placing
-pub mod Linked
+pub mod PlacedTerms
+pub mod Unlinked

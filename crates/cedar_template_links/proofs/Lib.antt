@@ -1,3 +1,3 @@
 pub mod Making
 pub mod Filling
-pub mod Files
+pub mod FileTexts

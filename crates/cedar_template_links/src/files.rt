@@ -1,4 +1,4 @@
-#![tactic(auto, using(cedar_policy_json_reader::proofs::Views::views, cedar_policy_json_reader::proofs::Refused::refusals, cedar_policy_json_reader::proofs::Lists::lists, crate::proofs::Files::told))]
+#![tactic(auto, using(cedar_policy_json_reader::proofs::Views::views, cedar_policy_json_reader::proofs::Refused::refusals, cedar_policy_json_reader::proofs::Lists::lists, crate::proofs::FileTexts::told))]
 //! Links of a file, in which an entity is Cedar's text of it.
 ghost use Rattle.std.specs.Prelude.{◌≡◌, [], ◌∷◌, ◌++◌, None, Ok, map, option_map, OnOk, IfOk, IfErr};
 ghost use Rattle.json.specs.Value.{value_view, items_view};

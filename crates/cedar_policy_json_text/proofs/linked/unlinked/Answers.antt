@@ -4,7 +4,7 @@ use Rattle.cedar_layers.specs.declared.policies.policy.Policy.{Policy}
 use Rattle.cedar_layers.specs.Policies.{policy_view}
 use Rattle.cedar_template_links.specs.Links.{link_view}
 use Rattle.cedar_policy_json_text.specs.Placed.{unlinked}
-use Rattle.cedar_policy_json_text.proofs.Linked.{looked_at, all_looked_at}
+use Rattle.cedar_policy_json_text.proofs.Unlinked.{looked_at, all_looked_at}
 use Rattle.cedar_policy_json_text.proofs.linked.unlinked.Goals as goal
 
 pub templates-preserved : goal.templates-preserved

@@ -3,7 +3,7 @@ use Rattle.std.proofs.lemmas.List.{drop_more, drop_all}
 use Rattle.cedar_template_links.specs.Links.{LinkView, link_view}
 use Rattle.cedar_template_links.specs.LinkFiles.{WrittenView, written_view, AreReadAs}
 use Rattle.cedar_template_links.specs.declared.files.WrittenLink.{WrittenLink}
-use Rattle.cedar_template_links.proofs.Files.{read_on, all_read, told_of, among}
+use Rattle.cedar_template_links.proofs.FileTexts.{read_on, all_read, told_of, among}
 use Rattle.cedar_template_links.proofs.files.put_parsed.Goals as goal
 
 pub links-preserved : goal.links-preserved
