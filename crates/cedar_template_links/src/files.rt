@@ -249,16 +249,16 @@ fn parse_all(alloc: Global, all: &[WrittenLink<'_>]) -> Result<Vec<Link>, Policy
 fn put_parsed(
     alloc: Global,
     all: &[WrittenLink<'_>],
-    links: &mut Vec<Link>,
+    read: &mut Vec<Link>,
 ) -> Result<(), PolicyJsonError>
-    requires { links.old.items ≡ [] }
+    requires { read.old.items ≡ [] }
     ensures read { OnOk result
-        (written.AreReadAs (map written.written_view all.now) (map links.link_view links.new.items)) }
+        (written.AreReadAs (map written.written_view all.now) (map links.link_view read.new.items)) }
     ensures refused { IfErr result (written.AreUnread (map written.written_view all.now)) }
 {
     let mut index: usize = 0;
     'links: for link in all {
-        put_one_parsed(alloc, index, link, links)?;
+        put_one_parsed(alloc, index, link, read)?;
         index += 1;
     }
     Ok(())
@@ -268,14 +268,14 @@ fn put_one_parsed(
     alloc: Global,
     index: usize,
     link: &WrittenLink<'_>,
-    links: &mut Vec<Link>,
+    read: &mut Vec<Link>,
 ) -> Result<(), PolicyJsonError>
     ensures read { OnOk result (written.IsOneMoreRead (written.written_view link.now)
-        (map links.link_view links.old.items) (map links.link_view links.new.items)) }
+        (map links.link_view read.old.items) (map links.link_view read.new.items)) }
     ensures refused { IfErr result (written.IsUnread (written.written_view link.now)) }
 {
     match parse_one(alloc, link) {
-        Ok(link) => put(link, links),
+        Ok(link) => put(link, read),
         Err(error) => Err(error.under_key(alloc, "args").under_index(index)),
     }
 }

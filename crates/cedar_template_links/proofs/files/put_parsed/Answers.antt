@@ -14,7 +14,7 @@ links-preserved c =
     let here : drop l.link-index xs ≡ x ∷ drop (l.link-index + 1) xs = drop_more xs l.link-index x (omega arith) ∙ ap (λ y. y ∷ drop (l.link-index + 1) xs) (sym c.link-item.is) in
     let h = c.in_ok-put_one_parsed.ensures.read in (
       ap (λ (n : ℕ). n + 1) l.invariant.0,
-      read_on _ (written_view x) (map written_view (drop (l.link-index + 1) xs)) (map link_view l.links.items) _ h.link
+      read_on _ (written_view x) (map written_view (drop (l.link-index + 1) xs)) (map link_view l.read.items) _ h.link
           (λ rest r. l.invariant.1 rest (subst (λ (ws : List WrittenLink). AreReadAs (map written_view ws) rest) (sym here) r)) h.read h.put,
     )
 

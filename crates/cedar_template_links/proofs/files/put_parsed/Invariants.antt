@@ -8,4 +8,4 @@ abbrev pub invariant-links : goal.invariant-links
 invariant-links l =
     (l.index ≡ l.link-index)
     × ((rest : List LinkView) → AreReadAs (map written_view (drop l.link-index l.fn.all)) rest
-    → AreReadAs (map written_view l.fn.all) (map link_view l.links.items ++ rest))
+    → AreReadAs (map written_view l.fn.all) (map link_view l.read.items ++ rest))
