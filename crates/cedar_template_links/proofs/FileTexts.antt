@@ -1,6 +1,7 @@
 -- Links that are read text by text.
-use Rattle.std.specs.Prelude.{⊤}
-use Rattle.std.proofs.Common.{◌≡◌, ◌⊎◌, ℕ, ◌+◌, List, [], ◌∷◌, ◌++◌, drop, map, refl, sym, ap, ◌∙◌, subst, append_assoc, append-nil, inl, inr, suc, Option, Some, None, Ok}
+use Rattle.std.specs.Prelude.{⊤, Result, Err, IfErr}
+use Rattle.std.proofs.Common.{◌≡◌, ◌⊎◌, ℕ, ◌+◌, ◌<◌, length, get_or, List, [], ◌∷◌, ◌++◌, drop, map, refl, sym, ap, ◌∙◌, subst, append_assoc, append-nil, inl, inr, zero, suc, Option, Some, None, Ok}
+use Rattle.std.proofs.lemmas.List.{drop_more}
 use Rattle.json.specs.Json.{Json}
 use Rattle.cedar_model.specs.Terms.{Text, EntityName}
 use Rattle.cedar_names.specs.declared.names.EntityUID.{EntityUID}
@@ -16,7 +17,7 @@ use Rattle.cedar_policy_json_reader.specs.Refusals.{IsUnder, IsMemory, IsRefusal
 use Rattle.cedar_policy_json_reader.specs.Shapes.{text_said}
 use Rattle.cedar_template_links.specs.declared.files.WrittenLink.{WrittenLink}
 use Rattle.cedar_template_links.specs.Links.{LinkView, link_as, values_said}
-use Rattle.cedar_template_links.specs.LinkFiles.{WrittenView, written_view, written_as, IsTextOf, text_of, AreTextOf, IsReadAs, AreReadAs, IsNoText, IsNoEntity, IsToldOf, IsToldAs, HaveNoText, AreUnread, IsOneMoreRead, IsSaidBy, all_written, IsUnsaid, unwritten, unread, IsAskedBy, IsUnasked, no_texts, no_entities}
+use Rattle.cedar_template_links.specs.LinkFiles.{WrittenView, written_view, written_as, IsTextOf, text_of, AreTextOf, IsReadAs, AreReadAs, IsNoText, IsNoEntity, IsToldOf, IsToldAs, HaveNoText, IsUnread, AreUnread, IsOneMoreRead, IsSaidBy, all_written, IsUnsaid, unwritten, unread, IsAskedBy, IsUnasked, no_texts, no_entities}
 
 -- one more that is read: what is read behind it is read behind the new list
 pub read_on : (all : List WrittenView) (w : WrittenView) (ws : List WrittenView) (done new : List LinkView) (l : LinkView)
@@ -24,6 +25,24 @@ pub read_on : (all : List WrittenView) (w : WrittenView) (ws : List WrittenView)
     → IsReadAs w l → new ≡ done ++ l ∷ [] → (rest : List LinkView) → AreReadAs ws rest → AreReadAs all (new ++ rest)
 read_on all w ws done new l before is put rest others =
     subst (λ (ls : List LinkView). AreReadAs all ls) (sym (append_assoc done (l ∷ []) rest) ∙ ap (λ (ls : List LinkView). ls ++ rest) (sym put)) (before (l ∷ rest) (is, others))
+
+-- what a slice gives where it has nothing
+abbrev pub no_link : WrittenLink
+no_link = record {
+  template_id = record { ref_ptr = (0, 0); now = [] };
+  new_id = record { ref_ptr = (0, 0); now = [] };
+  principal = None;
+  resource = None;
+}
+
+-- the same, of the link of this index
+pub read_here : (xs : List WrittenLink) (i : ℕ) (done new : List LinkView) → i < length xs
+    → ((rest : List LinkView) → AreReadAs (map written_view (drop i xs)) rest → AreReadAs (map written_view xs) (done ++ rest))
+    → IsOneMoreRead (written_view (get_or xs i no_link)) done new
+    → (rest : List LinkView) → AreReadAs (map written_view (drop (i + 1) xs)) rest → AreReadAs (map written_view xs) (new ++ rest)
+read_here xs i done new fits before h =
+    read_on (map written_view xs) (written_view (get_or xs i no_link)) (map written_view (drop (i + 1) xs)) done new h.link
+    (λ rest r. before rest (subst (λ (ws : List WrittenLink). AreReadAs (map written_view ws) rest) (sym (drop_more xs i no_link fits)) r)) h.read h.put
 
 -- nothing is left to read
 pub all_read : (all left : List WrittenView) (done : List LinkView) → left ≡ []
@@ -62,9 +81,15 @@ refused_told path (errors.Memory m) h = tt
 -- what is no text of one of the links is none of all
 pub among : (n : ℕ) (xs : List WrittenLink) (x : WrittenLink) (rest : List WrittenLink) → drop n xs ≡ x ∷ rest
     → (IsNoText (written_view x).principal ⊎ IsNoText (written_view x).resource) → HaveNoText (map written_view xs)
-among 0 xs x rest is h = subst (λ (ys : List WrittenLink). HaveNoText (map written_view ys)) (sym is) (inl h)
+among zero xs x rest is h = subst (λ (ys : List WrittenLink). HaveNoText (map written_view ys)) (sym is) (inl h)
 among (suc n) [] x rest is h = absurd (cc)
 among (suc n) (y ∷ ys) x rest is h = inr (among n ys x rest is h)
+
+pub among_these : (xs : List WrittenLink) (i : ℕ) (e : PolicyJsonError) → i < length xs → IsUnread (written_view (get_or xs i no_link)) e → AreUnread (map written_view xs) e
+among_these xs i e fits h =
+    let x : WrittenLink = get_or xs i no_link in
+    told_of (IsNoText (written_view x).principal ⊎ IsNoText (written_view x).resource) (HaveNoText (map written_view xs))
+    (among i xs x (drop (i + 1) xs) (drop_more xs i no_link fits)) e h
 
 pub told_left : (A B : Type 0) (e : PolicyJsonError) → IsToldOf A e → IsToldOf (A ⊎ B) e
 told_left A B e h = told_of A (A ⊎ B) (λ a. inl a) e h
@@ -91,6 +116,11 @@ pub one_read : (w : WrittenView) (old new : List LinkView) (l : LinkView) → Is
 one_read w old new l read put = record { link = l; read = read; put = put }
 
 -- ---- the whole
+
+-- what is told of an error is told in other words
+pub if_err : {T : Type 0} (A B : PolicyJsonError → Type 0) (r : Result T PolicyJsonError) → ((e : PolicyJsonError) → A e → B e) → IfErr r A → IfErr r B
+if_err A B (Ok t) f h = h
+if_err A B (Err e) f h = f e h
 
 pub said_by : (j : Json) (ws : List WrittenView) (ls : List LinkView) → all_written j ≡ Ok ws → AreReadAs ws ls → IsSaidBy j ls
 said_by j ws ls said read = record { written = ws; said = said; read = read }
