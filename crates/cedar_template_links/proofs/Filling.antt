@@ -2,7 +2,6 @@
 use Rattle.std.proofs.Common.{◌≡◌, refl, sym, ap, ◌∙◌, cond, [], Option, Some, None, option_map}
 use Rattle.std.specs.HashMap.{get, Updates}
 use Rattle.cedar_model.specs.Terms.{EntityName, Slot, principal_slot, resource_slot}
-use Rattle.cedar_model.specs.World.{Slots}
 use Rattle.cedar_model.specs.Agreement.{no_slots}
 use Rattle.cedar_names.specs.contracts.names.SlotIdPartialEq.TheImpl.{eq-value}
 use Rattle.cedar_names.specs.declared.names.EntityUID.{EntityUID}

@@ -12,12 +12,12 @@ use Rattle.cedar_text_parser.specs.Paths.{IsEntityRead, IsPathRefused}
 use Rattle.cedar_policy_json_reader.specs.declared.errors.PolicyJsonError.{PolicyJsonError}
 use Rattle.cedar_policy_json_reader.specs.declared.errors.PolicyJsonError.TheVariants as errors
 use Rattle.cedar_policy_json_reader.specs.declared.errors.RefusalReason.TheVariants as reasons
-use Rattle.cedar_policy_json_reader.specs.Paths.{Step, at_key, at_index, path_view}
+use Rattle.cedar_policy_json_reader.specs.Paths.{at_key, at_index}
 use Rattle.cedar_policy_json_reader.specs.Refusals.{Said, refused, under, before, made_of, and_then, IsRefusal, IsMemory}
 use Rattle.cedar_policy_json_reader.specs.Shapes.{text_said}
 use Rattle.cedar_template_links.specs.declared.forms.LinkForm.TheVariants as forms
 use Rattle.cedar_template_links.specs.declared.files.WrittenLink.{WrittenLink}
-use Rattle.cedar_template_links.specs.Links.{LinkView, Parts, parts_said, values_key, values_said, principal_key, resource_key}
+use Rattle.cedar_template_links.specs.Links.{LinkView, Parts, parts_said, values_key, values_said}
 
 -- a link, with the texts of its entities
 pub record WrittenView : Type 0 where

@@ -1,5 +1,5 @@
 -- Which policies links make of templates.
-use Rattle.std.specs.Prelude.{ℕ, ◌||◌, Bool, true, false, length, List, [], ◌∷◌, ◌++◌, map, if◌then◌else◌, Option, Some, None, Ok, codes}
+use Rattle.std.specs.Prelude.{◌||◌, Bool, true, false, length, List, [], ◌∷◌, ◌++◌, if◌then◌else◌, Option, Some, None, Ok}
 use Rattle.cedar_model.specs.Terms.{Text, EntityName, Slot, principal_slot, resource_slot, Term, slot, both, binary}
 use Rattle.cedar_model.specs.World.{Slots}
 use Rattle.cedar_model.specs.Outcomes.{text_eq}

@@ -1,5 +1,5 @@
 -- What the JSON of links says: templates by their ids, new ids, and entities for slots.
-use Rattle.std.specs.Prelude.{ℕ, ◌+◌, ◌==◌, List, [], ◌∷◌, map, if◌then◌else◌, option_map, Option, Some, None, Ok, codes}
+use Rattle.std.specs.Prelude.{ℕ, ◌+◌, ◌==◌, List, [], if◌then◌else◌, option_map, Option, Some, None, Ok, codes}
 use Rattle.json.specs.Json.{Json, Items, no_items, item}
 use Rattle.json.specs.Find.{as_array, get}
 use Rattle.cedar_model.specs.Terms.{Text, EntityName}

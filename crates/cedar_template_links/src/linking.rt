@@ -214,8 +214,10 @@ fn linked_policy(
     resource: Option<&EntityUID>,
 ) -> Result<Policy, AllocError>
     ensures { IfOk result (λ p. policy_view p ≡ linked (policy_view template.now) (policy_id_text id.now)
-        (linking.slots_with (option_map (λ u. uid_name u.now) principal.entry,
-        option_map (λ u. uid_name u.now) resource.entry))) }
+        (linking.slots_with (
+          option_map (λ u. uid_name u.now) principal.entry,
+          option_map (λ u. uid_name u.now) resource.entry,
+        ))) }
 {
     let env = slot_env(alloc, principal, resource)?;
     let id: PolicyID = id.clone()?;

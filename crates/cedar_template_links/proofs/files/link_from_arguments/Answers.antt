@@ -1,6 +1,4 @@
-use Rattle.std.proofs.Common.{◌≡◌}
 use Rattle.json.specs.Value.{value_view}
-use Rattle.cedar_policy_json_reader.specs.declared.errors.PolicyJsonError.{PolicyJsonError}
 use Rattle.cedar_template_links.specs.LinkFiles.{IsUnasked}
 use Rattle.cedar_template_links.proofs.FileTexts.{if_err, unasked_then}
 use Rattle.cedar_template_links.proofs.files.link_from_arguments.Goals as goal

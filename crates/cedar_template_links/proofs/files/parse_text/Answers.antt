@@ -1,4 +1,4 @@
-use Rattle.std.proofs.Common.{rules, ◌≡◌, refl}
+use Rattle.std.proofs.Common.{refl}
 use Rattle.cedar_names.specs.Names.{uid_name}
 use Rattle.cedar_template_links.specs.LinkFiles.{IsTextOf, text_of}
 use Rattle.cedar_template_links.proofs.files.parse_text.Goals as goal

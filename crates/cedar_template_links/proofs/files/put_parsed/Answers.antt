@@ -1,4 +1,4 @@
-use Rattle.std.proofs.Common.{rules, ◌≡◌, ℕ, ◌+◌, map, ap, arith}
+use Rattle.std.proofs.Common.{rules, ℕ, ◌+◌, map, ap, arith}
 use Rattle.std.proofs.lemmas.List.{drop_all}
 use Rattle.cedar_template_links.specs.Links.{link_view}
 use Rattle.cedar_template_links.specs.LinkFiles.{written_view, AreUnread}
@@ -15,7 +15,7 @@ links-preserved c =
 pub returns-in_err-put_one_parsed-clause-refused : goal.returns-in_err-put_one_parsed-clause-refused
 returns-in_err-put_one_parsed-clause-refused c =
     let h : AreUnread (map written_view c.args.all.now) c.in_err-put_one_parsed.field-0.0 =
-        among_these c.args.all.now c.links.link-index c.in_err-put_one_parsed.field-0.0 (omega arith) c.in_err-put_one_parsed.ensures.refused in
+    among_these c.args.all.now c.links.link-index c.in_err-put_one_parsed.field-0.0 (omega arith) c.in_err-put_one_parsed.ensures.refused in
     search rules
 
 pub returns-clause-read : goal.returns-clause-read

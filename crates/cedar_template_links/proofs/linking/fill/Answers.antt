@@ -1,4 +1,4 @@
-use Rattle.std.proofs.Common.{◌≡◌, ◌∙◌, Ok, Option, ap, sym}
+use Rattle.std.proofs.Common.{◌∙◌, Ok, Option, ap, sym}
 use Rattle.cedar_model.specs.Terms.{EntityName}
 use Rattle.cedar_layers.specs.Policies.{policy_view, policy_id_text}
 use Rattle.cedar_policy_json_reader.specs.Paths.{at_key}

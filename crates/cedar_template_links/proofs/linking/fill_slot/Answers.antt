@@ -10,5 +10,5 @@ pub returns-in_ok-insert-in-Some : goal.returns-in_ok-insert-in-Some
 returns-in_ok-insert-in-Some c =
     let named : uid_name c.in_ok-uid-in-Some.uid ≡ uid_name c.in-Some.uid.now = search rules in
     let h : slots_view c.insert.new.self ≡ with_value (slot_view c.args.slot) (Some (uid_name c.in-Some.uid.now)) (slots_view c.args.env.now) =
-        slot_filled c.args.env.now c.insert.new.self c.args.slot c.in_ok-uid-in-Some.uid c.in-Some.uid.now c.in_ok-insert-in-Some.ensures.updates named in
+    slot_filled c.args.env.now c.insert.new.self c.args.slot c.in_ok-uid-in-Some.uid c.in-Some.uid.now c.in_ok-insert-in-Some.ensures.updates named in
     rw c.in-Some.is h

@@ -1,4 +1,4 @@
-use Rattle.std.proofs.Common.{◌≡◌, option_map}
+use Rattle.std.proofs.Common.{option_map}
 use Rattle.std.specs.Borrow.{Bor}
 use Rattle.cedar_names.specs.declared.names.EntityUID.{EntityUID}
 use Rattle.cedar_names.specs.Names.{uid_name}

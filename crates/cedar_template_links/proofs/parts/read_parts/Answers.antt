@@ -1,4 +1,3 @@
-use Rattle.std.proofs.Common.{◌≡◌}
 use Rattle.cedar_template_links.proofs.parts.read_parts.Goals as goal
 
 pub returns-in-Set-clause-said : goal.returns-in-Set-clause-said
