@@ -61,3 +61,7 @@ nothing_placed (like a p) = refl
 nothing_placed (is_of_type a t) = refl
 nothing_placed (set_of ts) = refl
 nothing_placed (record_of fs) = refl
+
+-- the entity of a slot, as it is found, is what is placed
+pub slot_placed : (s : Slots) (x : Slot) (o : Option EntityName) (t : Term) → o ≡ s x → t ≡ slot x → placed_slot x o ≡ placed s t
+slot_placed s x o t found is = ap (placed_slot x) found ∙ ap (placed s) (sym is)
