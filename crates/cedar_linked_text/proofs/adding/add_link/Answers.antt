@@ -9,7 +9,7 @@ returns-in-Ok-clause-refused c =
     let k = knowledge c.args.functions.now in
     let text = c.args.text.now in
     let links = c.args.links.now in
-    let a = asked_view c.args.new.entry in
+    let a = asked_view c.args.new in
     let parsed = c.in-Ok.parsed in
     IfErr-weaker c.add_to_parsed-added.result (IsRefusedByParsed parsed links a) (IsNotAdded k c.args.limit text links a)
     (λ e h. not_added k c.args.limit text links a parsed e c.in-Ok.ensures.ok h) c.add_to_parsed-added.ensures.refused

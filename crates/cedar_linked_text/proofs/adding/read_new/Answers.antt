@@ -7,6 +7,6 @@ use Rattle.cedar_linked_text.proofs.adding.read_new.Goals as goal
 
 pub returns-in-Ok-clause-refused : goal.returns-in-Ok-clause-refused
 returns-in-Ok-clause-refused c =
-    let a = asked_view c.args.new.entry in
+    let a = asked_view c.args.new in
     let j = value_view c.in-Ok.value in
     IfErr-weaker c.link_from_arguments.result (IsUnasked j) (IsNoArgument a) (λ e h. arguments_refused a j e c.in-Ok.ensures.said h) c.link_from_arguments.ensures.refused
