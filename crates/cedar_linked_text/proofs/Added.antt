@@ -108,7 +108,7 @@ pub refused_by_set : (s : PolicySetView) (a : Asked) (l : LinkView) (e : LinkedT
 refused_by_set s a l (refusals.Unread es) asked h = h
 refused_by_set s a l (refusals.Shared i) asked h = h
 refused_by_set s a l (refusals.Link e) asked h = h
-refused_by_set s a l (refusals.NewLink e) asked h = unlinked asked h
+refused_by_set s a l (refusals.NewLink e) asked h = unlinked l asked h
 refused_by_set s a l (refusals.Text e) asked h = h
 refused_by_set s a l (refusals.Memory e) asked h = h
 

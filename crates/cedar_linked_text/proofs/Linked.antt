@@ -52,7 +52,7 @@ text_linked k limit text links new parsed read h = record {
 pub unmade_here : (k : Knowledge) (limit : ℕ) (text links : Text) (parsed : ParsedPolicies) (e : PolicyJsonError)
     → AreAllRead k text limit parsed → IsUnmadeOf parsed links e → IsUnmade k limit text links e
 unmade_here k limit text links parsed e read (unlisted_of h) = unlisted h
-unmade_here k limit text links parsed e read (unmade_of listed h) = unmade read listed h
+unmade_here k limit text links parsed e read (unmade_of list listed h) = unmade parsed list read listed h
 
 pub parsed_refused : (k : Knowledge) (limit : ℕ) (text links : Text) (parsed : ParsedPolicies) (e : LinkedTextError)
     → AreAllRead k text limit parsed → IsParsedRefusal parsed links e → IsUnlinked k limit text links e
@@ -76,7 +76,7 @@ named_refused : (parsed : ParsedPolicies) (links : Text) (ls : List LinkView) (e
     → IsListOf links ls → IsNamedRefusal (named_policies parsed) (named_templates parsed) ls e → IsParsedRefusal parsed links e
 named_refused parsed links ls (refusals.Unread es) listed h = absurd h
 named_refused parsed links ls (refusals.Shared i) listed h = record { list = ls; shared = h }
-named_refused parsed links ls (refusals.Link e) listed h = unmade_of listed h
+named_refused parsed links ls (refusals.Link e) listed h = unmade_of ls listed h
 named_refused parsed links ls (refusals.NewLink e) listed h = absurd h
 named_refused parsed links ls (refusals.Text e) listed h = absurd h
 named_refused parsed links ls (refusals.Memory e) listed h = tt

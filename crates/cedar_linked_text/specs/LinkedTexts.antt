@@ -149,7 +149,7 @@ pub record IsShared (k : Knowledge) (limit : ℕ) (text links name : Text) : Typ
 -- the links can't be read, or one of them makes no policy
 pub data IsUnmade (k : Knowledge) (limit : ℕ) (text links : Text) (e : PolicyJsonError) : Type 0 where
   unlisted : IsNoList links e → IsUnmade k limit text links e
-  unmade : {parsed : ParsedPolicies} {list : List LinkView} → AreAllRead k text limit parsed → IsListOf links list →
+  unmade : (parsed : ParsedPolicies) (list : List LinkView) → AreAllRead k text limit parsed → IsListOf links list →
       IsRefusal (links_made forms.File (named_policies parsed) (named_templates parsed) list) e → IsUnmade k limit text links e
 
 -- why there is no such text
@@ -173,7 +173,7 @@ IsNoArgument a (errors.Memory error) = ⊤
 -- the arguments name no link, or it makes no policy of these templates beside these policies
 pub data IsNoLink (s : PolicySetView) (a : Asked) (e : PolicyJsonError) : Type 0 where
   unasked : IsNoArgument a e → IsNoLink s a e
-  unlinked : {l : LinkView} → IsLinkOf a l → IsRefusal (link_made forms.File s.policies s.templates [] l) e → IsNoLink s a e
+  unlinked : (l : LinkView) → IsLinkOf a l → IsRefusal (link_made forms.File s.policies s.templates [] l) e → IsNoLink s a e
 
 -- the same beside the policies of what was parsed and of the links
 pub record IsNoLinkOf (parsed : ParsedPolicies) (links : Text) (a : Asked) (e : PolicyJsonError) : Type 0 where
@@ -250,7 +250,7 @@ pub record IsSharedIn (parsed : ParsedPolicies) (name : Text) : Type 0 where
 
 pub data IsUnmadeOf (parsed : ParsedPolicies) (links : Text) (e : PolicyJsonError) : Type 0 where
   unlisted_of : IsNoList links e → IsUnmadeOf parsed links e
-  unmade_of : {list : List LinkView} → IsListOf links list →
+  unmade_of : (list : List LinkView) → IsListOf links list →
       IsRefusal (links_made forms.File (named_policies parsed) (named_templates parsed) list) e → IsUnmadeOf parsed links e
 
 abbrev pub IsParsedRefusal : ParsedPolicies → Text → LinkedTextError → Type 0
