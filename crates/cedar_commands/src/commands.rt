@@ -28,7 +28,8 @@ pub(crate) fn cedar<'a>(alloc: Global) -> Result<Command<'a>, AllocError> {
         .subcommand(evaluate(alloc)?)?
         .subcommand(check_parse(alloc)?)?
         .subcommand(format(alloc)?)?
-        .subcommand(translate(alloc)?)
+        .subcommand(translate(alloc)?)?
+        .subcommand(link(alloc)?)
 }
 
 // An option with a value.
@@ -59,6 +60,11 @@ fn policy_format<'a>(alloc: Global) -> Arg<'a> {
     option(alloc, "policy-format", "FORMAT", help)
         .value_parser(ValueParser::Names(&FORMATS))
         .default_value("cedar")
+}
+
+fn template_linked<'a>(alloc: Global) -> Arg<'a> {
+    let help = "The links of templates, in JSON: the policies that they make decide too";
+    option(alloc, "template-linked", "FILE", help).short('k')
 }
 
 fn limit<'a>(alloc: Global) -> Arg<'a> {
@@ -128,6 +134,7 @@ fn authorize<'a>(alloc: Global) -> Result<Command<'a>, AllocError> {
         .about("What the policies decide: ALLOW (status 0) or DENY (status 2)")
         .arg(policies(alloc))?
         .arg(policy_format(alloc))?
+        .arg(template_linked(alloc))?
         .arg(error_handling(alloc))?
         .arg(limit(alloc))?
         .arg(requests(alloc)?)?
@@ -149,6 +156,7 @@ fn diff<'a>(alloc: Global) -> Result<Command<'a>, AllocError> {
     Command::new(alloc, "diff")
         .about("What new policies answer differently, a line of JSON for each request (status 2)")
         .arg(policies(alloc))?
+        .arg(template_linked(alloc))?
         .arg(with.required(true))?
         .arg(requests.required(true))?
         .arg(error_handling(alloc))?
@@ -184,6 +192,7 @@ fn partially_authorize<'a>(alloc: Global) -> Result<Command<'a>, AllocError> {
         .about("What is known of the decision where parts are unknown: those that are not given")
         .arg(policies(alloc))?
         .arg(policy_format(alloc))?
+        .arg(template_linked(alloc))?
         .arg(error_handling(alloc))?
         .arg(limit(alloc))?
         .arg(partial)?
@@ -239,6 +248,7 @@ fn check_parse<'a>(alloc: Global) -> Result<Command<'a>, AllocError> {
         .about("Whether the policies can be read")
         .arg(policies(alloc))?
         .arg(policy_format(alloc))?
+        .arg(template_linked(alloc))?
         .arg(flag(alloc, "strict", "Tells the policies that apply in no world"))?
         .arg(deny_warnings(alloc)?)
 }
@@ -246,6 +256,28 @@ fn check_parse<'a>(alloc: Global) -> Result<Command<'a>, AllocError> {
 fn deny_warnings<'a>(alloc: Global) -> Result<Arg<'a>, AllocError> {
     let help = "With --strict the status is 1 if a policy is told";
     flag(alloc, "deny-warnings", help).requires_arg("strict")
+}
+
+fn link<'a>(alloc: Global) -> Result<Command<'a>, AllocError> {
+    let template = option(alloc, "template-id", "ID", "Which template is linked");
+    let new = option(
+        alloc,
+        "new-id",
+        "ID",
+        "The id of the policy that it is linked to",
+    )
+    .short('n');
+    let help = "The entities of its slots, as {\"?principal\": \"User::\\\"alice\\\"\"}";
+    let arguments = option(alloc, "arguments", "JSON", help).short('a');
+    let file = "The links that there are, in JSON: the new one is added";
+    Command::new(alloc, "link")
+        .about("The policy that a template is linked to, which is added to the file of links")
+        .arg(policies(alloc))?
+        .arg(policy_format(alloc))?
+        .arg(option(alloc, "template-linked", "FILE", file).short('k'))?
+        .arg(template.required(true))?
+        .arg(new.required(true))?
+        .arg(arguments.required(true))
 }
 
 fn translate<'a>(alloc: Global) -> Result<Command<'a>, AllocError> {

@@ -1,4 +1,5 @@
 //! The files that arguments name. `-` is standard input, which is read once.
+use crate::links::linked_text;
 use crate::policies::text_of_json;
 use cedar_cli::{Refusal, Source, Step, refuse_with_line};
 use clap::ArgMatches;
@@ -13,8 +14,9 @@ const INPUT: &str = "-";
 const INPUT_NAME: &str = "standard input";
 
 // The options that name one file.
-const FILE_OPTIONS: [&str; 7] = [
+const FILE_OPTIONS: [&str; 8] = [
     "policies",
+    "template-linked",
     "with",
     "context",
     "request-json",
@@ -25,9 +27,9 @@ const FILE_OPTIONS: [&str; 7] = [
 
 /// A file's name, and its text.
 #[derive(Drop)]
-struct File {
-    name: String,
-    text: String,
+pub(crate) struct File {
+    pub(crate) name: String,
+    pub(crate) text: String,
 }
 
 /// The files of a step.
@@ -58,8 +60,7 @@ impl Texts {
         matches: &ArgMatches<'_>,
     ) -> Result<Texts, Refusal> {
         refuse_second_input(rt.alloc(), matches)?;
-        let policies = policies_of(rt, matches)?;
-        let with = text_of(rt, matches.get_str("with"))?;
+        let (policies, with) = all_policies(rt, matches)?;
         let context = text_of(rt, matches.get_str("context"))?;
         let request = text_of(rt, matches.get_str("request-json"))?;
         let requests = text_of(rt, matches.get_str("requests"))?;
@@ -132,12 +133,42 @@ impl Texts {
     }
 }
 
-fn policies_of<R: Files + Input + AllocGlobal>(
+// The policies and the new policies, with those that links make of their templates.
+fn all_policies<R: Files + Input + AllocGlobal>(
+    rt: &R,
+    matches: &ArgMatches<'_>,
+) -> Result<(Option<File>, Option<File>), Refusal> {
+    let policies = policies_of(rt, matches)?;
+    let with = text_of(rt, matches.get_str("with"))?;
+    match text_of(rt, matches.get_str("template-linked"))? {
+        Some(links) => {
+            let policies = with_links(rt.alloc(), policies, &links)?;
+            let with = with_links(rt.alloc(), with, &links)?;
+            Ok((policies, with))
+        }
+        None => Ok((policies, with)),
+    }
+}
+
+fn with_links(alloc: Global, file: Option<File>, links: &File) -> Result<Option<File>, Refusal> {
+    match file {
+        Some(file) => {
+            let text = linked_text(alloc, source_of(&file), source_of(links));
+            let File { name, text: old } = file;
+            drop(old);
+            Ok(Some(text_file(alloc, name, "with links", text)?))
+        }
+        None => Ok(None),
+    }
+}
+
+/// The policies, of whose text the same is said in JSON.
+pub(crate) fn policies_of<R: Files + Input + AllocGlobal>(
     rt: &R,
     matches: &ArgMatches<'_>,
 ) -> Result<Option<File>, Refusal> {
     match text_of(rt, matches.get_str("policies"))? {
-        Some(file) => Ok(Some(as_text(rt.alloc(), file, is_json(matches))?)),
+        Some(file) => Ok(Some(as_text(rt.alloc(), file, matches)?)),
         None => Ok(None),
     }
 }
@@ -148,21 +179,33 @@ fn is_json(matches: &ArgMatches<'_>) -> bool {
         || matches.get_str("direction") == Some("json-to-cedar")
 }
 
-fn as_text(alloc: Global, file: File, is_json: bool) -> Result<File, Refusal> {
-    if is_json {
-        let text = text_of_json(alloc, file.name.as_str(), file.text.as_str());
+// Without the templates that have links in the JSON, where nothing asks for these.
+fn is_deciding(matches: &ArgMatches<'_>) -> bool {
+    matches.get_str("direction").is_none()
+        && matches.get_str("template-id").is_none()
+        && matches.get_str("template-linked").is_none()
+}
+
+fn as_text(alloc: Global, file: File, matches: &ArgMatches<'_>) -> Result<File, Refusal> {
+    if is_json(matches) {
+        let text = text_of_json(alloc, source_of(&file), is_deciding(matches));
         let File { name, text: json } = file;
         drop(json);
-        text_file(alloc, name, text)
+        text_file(alloc, name, "as text", text)
     } else {
         Ok(file)
     }
 }
 
-fn text_file(alloc: Global, name: String, text: Result<String, Refusal>) -> Result<File, Refusal> {
+fn text_file(
+    alloc: Global,
+    name: String,
+    how: &str,
+    text: Result<String, Refusal>,
+) -> Result<File, Refusal> {
     match text {
         Ok(text) => {
-            let name = format!(in alloc; "{name} as text")?;
+            let name = format!(in alloc; "{name} {how}")?;
             Ok(File { name, text })
         }
         Err(refusal) => {
@@ -196,7 +239,8 @@ fn source(file: &Option<File>) -> Option<Source<'_>> {
     }
 }
 
-fn source_of(file: &File) -> Source<'_> {
+/// What is told of the file where its text is wrong, and the text.
+pub(crate) fn source_of(file: &File) -> Source<'_> {
     Source {
         name: file.name.as_str(),
         text: file.text.as_str(),
@@ -244,8 +288,8 @@ fn with_entities<R: Files + Input + AllocGlobal>(
     }
 }
 
-// The file of this name and its text, if one is named.
-fn text_of<R: Files + Input + AllocGlobal>(
+/// The file of this name and its text, if one is named.
+pub(crate) fn text_of<R: Files + Input + AllocGlobal>(
     rt: &R,
     name: Option<&str>,
 ) -> Result<Option<File>, Refusal> {
@@ -276,8 +320,8 @@ fn input_text<R: Input + AllocGlobal>(rt: &R) -> Result<String, Refusal> {
     }
 }
 
-// Refuses the arguments where more than one of them is `-`: standard input is read once.
-fn refuse_second_input(alloc: Global, matches: &ArgMatches<'_>) -> Result<(), Refusal> {
+/// Refuses the arguments where more than one of them is `-`: standard input is read once.
+pub(crate) fn refuse_second_input(alloc: Global, matches: &ArgMatches<'_>) -> Result<(), Refusal> {
     let mut count: usize = 0;
     'options: for option in FILE_OPTIONS {
         if matches.get_str(option) == Some(INPUT) {

@@ -1,6 +1,7 @@
 //! Runs a command.
 use crate::commands::cedar;
 use crate::files::Texts;
+use crate::links::link;
 use cedar_cli::{
     Asked, ErrorHandling, Printed, Refusal, Source, Step, Way, authorize, authorize_and_explain,
     authorize_each, check_format, check_policies, check_strictly, evaluate_expression,
@@ -91,6 +92,9 @@ fn run<R: Files + Input + AllocGlobal>(
     name: &str,
     matches: &ArgMatches<'_>,
 ) -> Result<Printed, Refusal> {
+    if name == "link" {
+        return link(rt, matches);
+    }
     let texts = Texts::read(rt, matches)?;
     let printed = run_with(rt.alloc(), name, matches, &texts);
     drop(texts);

@@ -49,7 +49,11 @@ reason_text reasons.NotAnObject = codes "not an object"
 reason_text reasons.NotAnArray = codes "not an array"
 reason_text reasons.UnexpectedMember = codes "a member too many"
 reason_text reasons.MissingMember = codes "missing"
-reason_text reasons.RepeatedKey = codes "the key comes again"
+reason_text reasons.RepeatedKey = codes "duplicate key"
+reason_text reasons.NoSuchTemplate = codes "no such template"
+reason_text reasons.TakenId = codes "another policy, template or link has this id"
+reason_text reasons.NoSuchSlot = codes "the template has no such slot"
+reason_text reasons.NotAnEntity = codes "not an entity"
 
 abbrev pub refusal_text : List Step → RefusalReason → Text
 refusal_text path reason = path_text path ++ (codes ": " ++ reason_text reason)

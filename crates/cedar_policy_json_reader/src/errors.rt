@@ -58,8 +58,16 @@ pub enum RefusalReason {
     UnexpectedMember,
     /// A member that the object must have.
     MissingMember,
-    /// A key of a record, or of annotations, that stands there a second time.
+    /// A key of a record, of annotations or of policies that stands there a second time.
     RepeatedKey,
+    /// No template has this id.
+    NoSuchTemplate,
+    /// Another policy, template or link has this id.
+    TakenId,
+    /// A value for a slot that the template does not have.
+    NoSuchSlot,
+    /// A text that is no entity's, as `User::"alice"` is.
+    NotAnEntity,
 }
 
 /// Why JSON was not read.
@@ -84,9 +92,9 @@ impl PolicyJsonError {
     ghost use Rattle.cedar_policy_json_reader.specs.Paths.{at_key, at_index, step_view};
     ghost use Rattle.cedar_policy_json_reader.specs.Refusals.{IsUnder, IsRefusedAt};
 
-    // The refusal of the whole value.
+    /// The refusal of the whole value for this reason: `Refused`, whose path has no steps.
     #[cold]
-    pub(crate) fn refusal(alloc: Global, reason: RefusalReason) -> PolicyJsonError
+    pub fn refusal(alloc: Global, reason: RefusalReason) -> PolicyJsonError
         ensures { IsRefusedAt [] reason result }
     {
         let path = JsonPath {
@@ -95,17 +103,17 @@ impl PolicyJsonError {
         PolicyJsonError::Refused { path, reason }
     }
 
-    // The refusal of the part at this key.
+    /// The refusal of the part at this key for this reason: `Refused`, or `Memory` if out of memory.
     #[cold]
-    pub(crate) fn refusal_at(alloc: Global, key: &str, reason: RefusalReason) -> PolicyJsonError
+    pub fn refusal_at(alloc: Global, key: &str, reason: RefusalReason) -> PolicyJsonError
         ensures { IsRefusedAt (at_key key.now ∷ []) reason result }
     {
         PolicyJsonError::refusal(alloc, reason).under_key(alloc, key)
     }
 
-    // The same error, of the part at this key.
+    /// The same error, of the part at this key: the path of `Refused` begins with it. `Memory` if out of memory.
     #[cold]
-    pub(crate) fn under_key(self, alloc: Global, key: &str) -> PolicyJsonError
+    pub fn under_key(self, alloc: Global, key: &str) -> PolicyJsonError
         ensures { IsUnder (at_key key.now) self result }
     {
         match RcStr::from_str(alloc, key) {
@@ -114,9 +122,9 @@ impl PolicyJsonError {
         }
     }
 
-    // The same error, of the part at this index.
+    /// The same error, of the part at this index: the path of `Refused` begins with it. `Memory` if out of memory.
     #[cold]
-    pub(crate) fn under_index(self, index: usize) -> PolicyJsonError
+    pub fn under_index(self, index: usize) -> PolicyJsonError
         ensures { IsUnder (at_index index) self result }
     {
         self.under(PathStep::Index(index))
@@ -192,7 +200,11 @@ impl fmt::Display for RefusalReason {
             RefusalReason::NotAnArray => f.write_str("not an array"),
             RefusalReason::UnexpectedMember => f.write_str("a member too many"),
             RefusalReason::MissingMember => f.write_str("missing"),
-            RefusalReason::RepeatedKey => f.write_str("the key comes again"),
+            RefusalReason::RepeatedKey => f.write_str("duplicate key"),
+            RefusalReason::NoSuchTemplate => f.write_str("no such template"),
+            RefusalReason::TakenId => f.write_str("another policy, template or link has this id"),
+            RefusalReason::NoSuchSlot => f.write_str("the template has no such slot"),
+            RefusalReason::NotAnEntity => f.write_str("not an entity"),
         }
     }
 }

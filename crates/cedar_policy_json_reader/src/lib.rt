@@ -36,4 +36,6 @@ pub use errors::{PolicyJsonError, RefusalReason};
 pub use expressions::expression_from_json;
 pub use paths::{JsonPath, PathStep};
 pub use policies::{policy_from_json, template_from_json};
-pub use texts::expression_from_json_str;
+pub use scopes::plain_uid;
+pub use shapes::{array, member_count, object, text_at, three_members};
+pub use texts::{expression_from_json_str, parse_json};

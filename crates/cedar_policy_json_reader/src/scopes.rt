@@ -29,8 +29,9 @@ use std::rc::Rc;
 
 // ---- entities and slots
 
-// The entity, with or without `__entity` round its type and its id.
-fn plain_uid(alloc: Global, value: &Value<'_>) -> Result<EntityUID, PolicyJsonError>
+/// The entity that the JSON value says: an object of `type` and `id`, with or without `__entity` round it. Refuses with
+/// `Refused`, which holds the path of the part that is refused first, and the reason; `Memory` is out of memory.
+pub fn plain_uid(alloc: Global, value: &Value<'_>) -> Result<EntityUID, PolicyJsonError>
     ensures said { IfOk result (λ u. says.plain_uid_said (value_view value.now) ≡ Ok (uid_name u)) }
     ensures refused { IfErr result (IsRefusal (says.plain_uid_said (value_view value.now))) }
 {

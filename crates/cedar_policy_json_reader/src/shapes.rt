@@ -13,7 +13,7 @@ use json::Value;
 use std::alloc::Global;
 
 /// The items, where the value is an array.
-pub(crate) fn array<'v, 'a>(value: &'v Value<'a>) -> Option<&'v Vec<Value<'a>>>
+pub fn array<'v, 'a>(value: &'v Value<'a>) -> Option<&'v Vec<Value<'a>>>
     ensures { option_map (λ js. items_view js.now.items) result ≡ as_array (value_view value.now) }
 {
     match value {
@@ -27,7 +27,7 @@ pub(crate) fn array<'v, 'a>(value: &'v Value<'a>) -> Option<&'v Vec<Value<'a>>>
 }
 
 /// The members, where the value is an object.
-pub(crate) fn object<'v, 'a>(value: &'v Value<'a>) -> Option<&'v Vec<(&'a str, Value<'a>)>>
+pub fn object<'v, 'a>(value: &'v Value<'a>) -> Option<&'v Vec<(&'a str, Value<'a>)>>
     ensures { option_map (λ ms. members_view ms.now.items) result ≡ as_object (value_view value.now) }
 {
     match value {
@@ -64,8 +64,8 @@ pub(crate) fn sole_member<'v, 'a>(value: &'v Value<'a>) -> Option<(&'v str, &'v 
     }
 }
 
-/// How many members an object has.
-pub(crate) fn member_count(value: &Value<'_>) -> Option<usize>
+/// How many members the value has, where it is an object.
+pub fn member_count(value: &Value<'_>) -> Option<usize>
     ensures { result ≡ shape.member_count (value_view value.now) }
 {
     match value {
@@ -171,8 +171,9 @@ pub(crate) fn missing(alloc: Global, key: &str) -> PolicyJsonError
 
 // ---- three members
 
-/// What stands at these three keys, where the value is an object that has no others.
-pub(crate) fn three_members<'v, 'a>(
+/// What stands at these three keys, where the value is an object that has no others. Refuses with `Refused`: what is no
+/// object, the first of the keys that is not there, or a member besides these; `Memory` is out of memory.
+pub fn three_members<'v, 'a>(
     alloc: Global,
     value: &'v Value<'a>,
     first_key: &str,
@@ -236,12 +237,9 @@ pub(crate) fn text<'a>(alloc: Global, value: &Value<'a>) -> Result<&'a str, Poli
     }
 }
 
-/// The text that the value at this key is.
-pub(crate) fn text_at<'a>(
-    alloc: Global,
-    key: &str,
-    value: &Value<'a>,
-) -> Result<&'a str, PolicyJsonError>
+/// The text that the value is, which stands at this key. Refuses what is no text, at this key, or with `Memory` if out of
+/// memory.
+pub fn text_at<'a>(alloc: Global, key: &str, value: &Value<'a>) -> Result<&'a str, PolicyJsonError>
     ensures said { IfOk result (λ t. under (at_key key.now) (shape.text_said (value_view value.now)) ≡ Ok t.now) }
     ensures refused { IfErr result (IsRefusal (under (at_key key.now) (shape.text_said (value_view value.now)))) }
 {

@@ -35,8 +35,9 @@ pub fn expression_from_json_str(
     }
 }
 
-// The JSON value that the text is.
-pub(crate) fn parse_json<'a>(
+/// The JSON value that the text is. `Syntax` where it is no JSON or nests deeper than 128 levels, `DuplicateKey` where an
+/// object of it has a key twice, `Memory` if out of memory.
+pub fn parse_json<'a>(
     alloc: Global,
     text: &'a str,
     scratch: &'a mut Scratch,

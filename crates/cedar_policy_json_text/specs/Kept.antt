@@ -13,6 +13,7 @@ use Rattle.cedar_text_parser.specs.PolicyReading.{AreAllRead}
 use Rattle.cedar_unsatisfiable.specs.Alike.{say_the_same}
 use Rattle.cedar_policy_json_reader.specs.JsonTexts.{Says, IsTextRefusal}
 use Rattle.cedar_policy_set_reader.specs.PolicySets.{PolicySetView, policy_set_said}
+use Rattle.cedar_policy_json_text.specs.Placed.{placed_view, without_linked}
 use Rattle.cedar_policy_json_text.specs.declared.errors.PolicyTextError.{PolicyTextError}
 use Rattle.cedar_policy_json_text.specs.declared.errors.PolicyTextError.TheVariants as errors
 
@@ -31,9 +32,10 @@ is_either k (Some name) q = text_eq k name || text_eq k q.id
 abbrev pub is_called : Text → PolicyView → Bool
 is_called k q = is_either k (annotated q) q
 
--- whether the second policy has the effect, the scope and the condition of the first, and goes by its id
+-- whether the second policy has the effect, the scope and the condition of the first, with the entities in its slots, and
+-- goes by its id
 abbrev pub is_kept : PolicyView → PolicyView → Bool
-is_kept p q = say_the_same p q && is_called p.id q
+is_kept p q = say_the_same (placed_view p) q && is_called p.id q
 
 -- policies that are lent
 abbrev pub lent : List (Bor Policy) → List PolicyView
@@ -54,7 +56,7 @@ are_all_kept s t = are_kept s.policies t.policies && are_kept s.templates t.temp
 
 -- what was read of a text
 abbrev pub parsed_view : ParsedPolicies → PolicySetView
-parsed_view p = record { policies = policies_view p.policies; templates = map policy_view p.templates.items }
+parsed_view p = record { policies = policies_view p.policies; templates = map policy_view p.templates.items; links = [] }
 
 -- the text is read as these policies and templates
 pub record ReadsBack (k : Knowledge) (limit : ℕ) (s : PolicySetView) (text : Text) : Type 0 where
@@ -67,6 +69,12 @@ pub record IsTextOf (k : Knowledge) (limit : ℕ) (json text : Text) : Type 0 wh
   pub set : PolicySetView
   pub said : Says json (policy_set_said k limit) set
   pub back : ReadsBack k limit set text
+
+-- the same without the templates that have links
+pub record IsDecidingTextOf (k : Knowledge) (limit : ℕ) (json text : Text) : Type 0 where
+  pub set : PolicySetView
+  pub said : Says json (policy_set_said k limit) set
+  pub back : ReadsBack k limit (without_linked set) text
 
 -- why JSON can't be read is why the reader of JSON refuses it
 abbrev pub IsUntold : Knowledge → ℕ → Text → PolicyTextError → Type 0

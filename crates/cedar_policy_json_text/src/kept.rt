@@ -5,7 +5,10 @@ ghost use Rattle.cedar_model.specs.Outcomes.{text_eq};
 ghost use Rattle.cedar_layers.specs.Policies.{policy_view, policy_id_text};
 ghost use Rattle.cedar_layers.specs.PolicySets.{policies_view};
 ghost use Rattle.cedar_policy_json_text.specs.Kept as kept;
+ghost use Rattle.cedar_policy_json_text.specs.Placed.{placed_view};
+ghost use Rattle.cedar_unsatisfiable.specs.Alike.{say_the_same};
 
+use crate::placing::placed_policy;
 use cedar_layers::policies::{Policy, PolicyID, PolicySet};
 use cedar_unsatisfiable::say_the_same;
 use std::alloc::{AllocError, Global};
@@ -73,15 +76,25 @@ fn are_as_many_kept(
     Ok(true)
 }
 
-/// Whether the second policy says what the first says, and goes by its id.
+/// Whether the second policy says what the first says with the entities in its slots, and goes by its id.
 pub(crate) fn is_kept(alloc: Global, policy: &Policy, read: &Policy) -> Result<bool, AllocError>
     ensures { IfOk result (λ b. b ≡ kept.is_kept (policy_view policy.now) (policy_view read.now)) }
 {
-    if say_the_same(policy, read) {
+    if says_the_same(alloc, policy, read)? {
         is_called(alloc, policy.id(), read)
     } else {
         Ok(false)
     }
+}
+
+// Whether the policies say the same, the first with the entities in its slots.
+fn says_the_same(alloc: Global, policy: &Policy, read: &Policy) -> Result<bool, AllocError>
+    ensures { IfOk result (λ b. b ≡ say_the_same (placed_view (policy_view policy.now)) (policy_view read.now)) }
+{
+    let placed = placed_policy(alloc, policy)?;
+    let same = say_the_same(&placed, read);
+    drop(placed);
+    Ok(same)
 }
 
 fn is_called(alloc: Global, id: &PolicyID, policy: &Policy) -> Result<bool, AllocError>
@@ -107,7 +120,7 @@ fn is_text(alloc: Global, id: &PolicyID, text: &str) -> Result<bool, AllocError>
 }
 
 /// The policy's annotation `id`, if it has one.
-pub(crate) fn annotated_id(policy: &Policy) -> Option<&str>
+pub fn annotated_id(policy: &Policy) -> Option<&str>
     ensures { option_copied result ≡ kept.annotated (policy_view policy.now) }
 {
     match policy.annotations_rc().0.get("id") {

@@ -3,9 +3,11 @@
 ghost use Rattle.std.specs.Prelude.{OnOk, IfOk, IfErr, string_bytes};
 ghost use Rattle.cedar_functions.specs.Functions.{knowledge};
 ghost use Rattle.cedar_policy_set_reader.specs.PolicySets.{set_view};
-ghost use Rattle.cedar_policy_json_text.specs.Kept.{IsTextOf, IsUntold, ReadsBack, IsOwn};
+ghost use Rattle.cedar_policy_json_text.specs.Kept.{IsTextOf, IsDecidingTextOf, IsUntold, ReadsBack, IsOwn};
+ghost use Rattle.cedar_policy_json_text.specs.Placed.{without_linked};
 
 use crate::errors::PolicyTextError;
+use crate::linked::without_linked_templates;
 use crate::reading_back::{no_text, read_back};
 use crate::writing::text_of;
 use cedar_functions::Functions;
@@ -14,9 +16,10 @@ use cedar_policy_set_reader::{ReadPolicies, policy_set_from_json_str};
 use std::alloc::{AllocError, Global};
 
 /// The policies that the JSON text says, as Cedar's text: it is read as these policies and templates, in their order,
-/// with calls of these functions and at most so many levels. A policy goes by its id there: by its annotation `id` or,
-/// where it has none, by its place, as `policy0`. Refuses where the JSON can't be read (`Unread`), where a policy has no
-/// such text (`NoText`) or another annotation `id` (`AnotherName`), or out of memory.
+/// with calls of these functions and at most so many levels. The policies of links stand behind the static ones, with
+/// their entities in place of slots. A policy goes by its id there: by its annotation `id` or, where it has none, by its
+/// place, as `policy0`. Refuses where the JSON can't be read (`Unread`), where a policy has no such text (`NoText`) or
+/// another annotation `id` (`AnotherName`), or out of memory.
 pub fn policies_to_text(
     alloc: Global,
     json: &str,
@@ -27,7 +30,7 @@ pub fn policies_to_text(
     ensures refused { IfErr result (IsUntold (knowledge functions.now) limit json.now) }
 {
     match policy_set_from_json_str(alloc, json, functions, limit) {
-        Ok(set) => match text_of_set(alloc, &set, functions, limit) {
+        Ok(set) => match set_to_text(alloc, &set, functions, limit) {
             Ok(text) => {
                 drop(set);
                 Ok(text)
@@ -42,7 +45,48 @@ pub fn policies_to_text(
     }
 }
 
-fn text_of_set(
+/// The same without the templates that have links: of these the policies of the links decide. Refuses as
+/// `policies_to_text` does.
+pub fn deciding_policies_to_text(
+    alloc: Global,
+    json: &str,
+    functions: &Functions,
+    limit: usize,
+) -> Result<String, PolicyTextError>
+    ensures text { IfOk result (λ t. IsDecidingTextOf (knowledge functions.now) limit json.now (string_bytes t)) }
+    ensures refused { IfErr result (IsUntold (knowledge functions.now) limit json.now) }
+{
+    match policy_set_from_json_str(alloc, json, functions, limit) {
+        Ok(set) => deciding_set_to_text(alloc, set, functions, limit),
+        Err(PolicyJsonError::Memory(error)) => Err(PolicyTextError::Memory(error)),
+        Err(error) => Err(PolicyTextError::Unread(error)),
+    }
+}
+
+/// The set without the templates that have links, as `set_to_text` writes it. Refuses as that does.
+pub fn deciding_set_to_text(
+    alloc: Global,
+    set: ReadPolicies,
+    functions: &Functions,
+    limit: usize,
+) -> Result<String, PolicyTextError>
+    ensures back { IfOk result (λ t. ReadsBack (knowledge functions.now) limit (without_linked (set_view set))
+        (string_bytes t)) }
+    ensures own { IfErr result IsOwn }
+{
+    match without_linked_templates(alloc, set) {
+        Ok(set) => {
+            let text = set_to_text(alloc, &set, functions, limit);
+            drop(set);
+            text
+        }
+        Err(AllocError) => Err(PolicyTextError::Memory(AllocError)),
+    }
+}
+
+/// The policies and the templates of the set as Cedar's text, which is read as these, as `policies_to_text` says. Refuses
+/// where a policy has no such text (`NoText`) or another annotation `id` (`AnotherName`), or out of memory.
+pub fn set_to_text(
     alloc: Global,
     set: &ReadPolicies,
     functions: &Functions,

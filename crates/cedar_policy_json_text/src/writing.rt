@@ -4,12 +4,15 @@ ghost use Rattle.cedar_policy_json_text.specs.Kept.{IsOwn};
 
 use crate::errors::PolicyTextError;
 use crate::kept::annotated_id;
-use cedar_layers::policies::{Policy, PolicyID};
+use crate::placing::placed_with;
+use cedar_layers::policies::{Annotations, Policy, PolicyID};
 use cedar_names::shared::write_quoted;
 use cedar_policy_set_reader::ReadPolicies;
 use cedar_text_printer::policy_to_cedar;
 use std::alloc::{AllocError, Global};
+use std::collections::BTreeMap;
 use std::fmt;
+use std::rc::RcStr;
 
 /// The policies, and behind them the templates, with an empty line between two.
 pub(crate) fn text_of(alloc: Global, set: &ReadPolicies) -> Result<String, PolicyTextError>
@@ -53,9 +56,37 @@ pub(crate) fn policy_text(
 ) -> Result<String, PolicyTextError>
     ensures { IfErr result IsOwn }
 {
-    let name = name_of(alloc, policy, number)?;
-    let written = policy_to_cedar(alloc, policy)?;
-    Ok(format!(in alloc; "{name}{written}")?)
+    if policy.env().is_empty() {
+        let name = name_of(alloc, policy, number)?;
+        let written = policy_to_cedar(alloc, policy)?;
+        Ok(format!(in alloc; "{name}{written}")?)
+    } else {
+        linked_text(alloc, policy)
+    }
+}
+
+// The policy of a link: with its id as its annotation `id`, and its entities in place of slots.
+fn linked_text(alloc: Global, policy: &Policy) -> Result<String, PolicyTextError>
+    ensures { IfErr result IsOwn }
+{
+    let annotations = named(alloc, policy)?;
+    let placed = placed_with(alloc, policy, annotations)?;
+    let written = policy_to_cedar(alloc, &placed);
+    drop(placed);
+    Ok(written?)
+}
+
+// The annotations of the template, and the policy's id in place of its own annotation `id`.
+fn named(alloc: Global, policy: &Policy) -> Result<Annotations, AllocError> {
+    let mut all: BTreeMap<RcStr, RcStr> = BTreeMap::new(alloc);
+    'annotations: for (key, value) in policy.annotations_rc().0.iter() {
+        drop(all.insert(key.clone()?, value.clone()?)?);
+    }
+    let key = RcStr::from_str(alloc, "id")?;
+    let id = policy.id().to_string(alloc)?;
+    let id = RcStr::from_str(alloc, id.as_str())?;
+    drop(all.insert(key, id)?);
+    Ok(Annotations(all))
 }
 
 // The annotation that names the policy, on a line; nothing, where it needs none.

@@ -1,34 +1,36 @@
 -- What the JSON of a set of policies says: its policies and its templates.
-use Rattle.std.specs.Prelude.{ℕ, ◌+◌, ◌==◌, ◌||◌, Bool, true, false, if◌then◌else◌, List, [], ◌∷◌, ◌++◌, map, option_map, Option, Some, None, Ok, codes}
+use Rattle.std.specs.Prelude.{ℕ, ◌+◌, ◌==◌, ◌||◌, Bool, true, false, if◌then◌else◌, List, [], ◌∷◌, ◌++◌, map, Option, Some, None, Ok, codes}
 use Rattle.json.specs.Json.{Json, Members, no_members, member}
-use Rattle.json.specs.Find.{as_object, as_array, get}
+use Rattle.json.specs.Find.{as_object, get}
 use Rattle.cedar_model.specs.Terms.{Text}
-use Rattle.cedar_model.specs.Outcomes.{text_eq}
 use Rattle.cedar_functions.specs.Functions.{Knowledge}
 use Rattle.cedar_layers.specs.Policies.{PolicyView, policy_view, policy_ids, first_repeated}
 use Rattle.cedar_layers.specs.PolicySets.{policies_view}
 use Rattle.cedar_policy_json_reader.specs.declared.errors.RefusalReason.TheVariants as reasons
-use Rattle.cedar_policy_json_reader.specs.Expressions.{Reading, expression_said, item_count}
+use Rattle.cedar_policy_json_reader.specs.Expressions.{Reading, expression_said}
 use Rattle.cedar_policy_json_reader.specs.Paths.{at_key}
 use Rattle.cedar_policy_json_reader.specs.Policies.{policy_by}
 use Rattle.cedar_policy_json_reader.specs.Refusals.{Said, refused, under, and_then}
 use Rattle.cedar_policy_json_reader.specs.Shapes.{member_count}
+use Rattle.cedar_template_links.specs.declared.forms.LinkForm.TheVariants as forms
+use Rattle.cedar_template_links.specs.Links.{LinkView, link_view, links_said}
+use Rattle.cedar_template_links.specs.Linking.{has_id, links_made}
 use Rattle.cedar_policy_set_reader.specs.declared.policy_sets.ReadPolicies.{ReadPolicies}
 
--- the policies and the templates, in the order of the JSON
+-- the policies, those of links last, the templates and the links, in the order of the JSON
 pub record PolicySetView : Type 0 where
   pub policies : List PolicyView
   pub templates : List PolicyView
+  pub links : List LinkView
 
 abbrev pub set_view : ReadPolicies → PolicySetView
-set_view r = record { policies = policies_view r.policies; templates = map policy_view r.templates.items }
+set_view r = record {
+  policies = policies_view r.policies;
+  templates = map policy_view r.templates.items;
+  links = map link_view r.links.items;
+}
 
 -- ---- ids
-
--- whether a policy has this id
-abbrev pub has_id : Text → List PolicyView → Bool
-has_id k [] = false
-has_id k (p ∷ ps) = text_eq k p.id || has_id k ps
 
 -- the id, which none of these and none of the others has
 abbrev pub new_id : List PolicyView → List PolicyView → Text → Said Text
@@ -56,18 +58,6 @@ members_in is_open says others (Some ms) = members_from is_open says others [] m
 abbrev pub members_said : Bool → Reading → List PolicyView → Json → Said (List PolicyView)
 members_said is_open says others j = members_in is_open says others (as_object j)
 
--- ---- links, of which there are none
-
-abbrev pub element_count : Json → Option ℕ
-element_count j = option_map item_count (as_array j)
-
-abbrev pub links_counted : Option ℕ → Said ℕ
-links_counted None = refused reasons.NotAnArray
-links_counted (Some n) = if n == 0 then Ok n else refused reasons.UnexpectedMember
-
-abbrev pub links_said : Json → Said ℕ
-links_said j = links_counted (element_count j)
-
 -- ---- the whole
 
 -- what a member says that may be left out
@@ -81,19 +71,29 @@ policies_at says j = section_in (codes "staticPolicies") [] (members_said false 
 abbrev pub templates_at : Reading → List PolicyView → Json → Said (List PolicyView)
 templates_at says ps j = section_in (codes "templates") [] (members_said true says ps) (get (codes "templates") j)
 
-abbrev pub links_at : Json → Said ℕ
-links_at j = section_in (codes "templateLinks") 0 links_said (get (codes "templateLinks") j)
+abbrev pub links_at : Json → Said (List LinkView)
+links_at j = section_in (codes "templateLinks") [] links_said (get (codes "templateLinks") j)
 
 -- no two of the policies have one id, as was looked at of each already
-abbrev pub set_made : List PolicyView → List PolicyView → Option Text → Said PolicySetView
-set_made templates ps None = Ok (record { policies = ps; templates = templates })
-set_made templates ps (Some k) = refused reasons.RepeatedKey
+abbrev pub set_made : List PolicyView → List LinkView → List PolicyView → Option Text → Said PolicySetView
+set_made templates links ps None = Ok (record { policies = ps; templates = templates; links = links })
+set_made templates links ps (Some k) = refused reasons.RepeatedKey
 
-abbrev pub set_of_all : List PolicyView → List PolicyView → ℕ → Said PolicySetView
-set_of_all templates ps links = set_made templates ps (first_repeated (policy_ids ps))
+abbrev pub set_of : List PolicyView → List LinkView → List PolicyView → Said PolicySetView
+set_of templates links ps = set_made templates links ps (first_repeated (policy_ids ps))
+
+-- the static policies, and behind them those of links
+abbrev pub set_of_all : List PolicyView → List PolicyView → List LinkView → List PolicyView → Said PolicySetView
+set_of_all ps templates links linked = set_of templates links (ps ++ linked)
+
+abbrev pub linked_policies : List PolicyView → List PolicyView → List LinkView → Said (List PolicyView)
+linked_policies ps templates links = under (at_key (codes "templateLinks")) (links_made forms.Set ps templates links)
+
+abbrev pub with_linked : List PolicyView → List PolicyView → List LinkView → Said PolicySetView
+with_linked ps templates links = and_then (set_of_all ps templates links) (linked_policies ps templates links)
 
 abbrev pub with_links : Json → List PolicyView → List PolicyView → Said PolicySetView
-with_links j ps templates = and_then (set_of_all templates ps) (links_at j)
+with_links j ps templates = and_then (with_linked ps templates) (links_at j)
 
 abbrev pub with_templates : Reading → Json → List PolicyView → Said PolicySetView
 with_templates says j ps = and_then (with_links j ps) (templates_at says ps j)

@@ -4,10 +4,11 @@ ghost use Rattle.std.specs.Prelude.{◌≡◌, ◌||◌, [], ◌∷◌, ◌++◌
 ghost use Rattle.cedar_layers.specs.Policies.{policy_view, policy_id_text};
 ghost use Rattle.cedar_policy_json_reader.specs.Refusals.{IsRefusal, IsMemory};
 ghost use Rattle.cedar_policy_set_reader.specs.PolicySets as sets;
+ghost use Rattle.cedar_template_links.specs.Linking as links;
 
-use crate::errors::refusal;
 use cedar_layers::policies::{Policy, PolicyID};
 use cedar_policy_json_reader::{PolicyJsonError, RefusalReason};
+use cedar_template_links::has_id;
 use std::alloc::Global;
 use std::rc::RcStr;
 
@@ -26,7 +27,7 @@ pub(crate) fn new_id(
     match id_of(alloc, text) {
         Ok(id) => if is_taken(&id, policies, others) {
             drop(id);
-            Err(refusal(alloc, RefusalReason::RepeatedKey))
+            Err(PolicyJsonError::refusal(alloc, RefusalReason::RepeatedKey))
         } else {
             Ok(id)
         },
@@ -35,21 +36,10 @@ pub(crate) fn new_id(
 }
 
 fn is_taken(id: &PolicyID, policies: &[Policy], others: &[Policy]) -> bool
-    ensures { result ≡ (sets.has_id (policy_id_text id.now) (map policy_view policies.now)
-        || sets.has_id (policy_id_text id.now) (map policy_view others.now)) }
+    ensures { result ≡ (links.has_id (policy_id_text id.now) (map policy_view policies.now)
+        || links.has_id (policy_id_text id.now) (map policy_view others.now)) }
 {
     has_id(policies, id) || has_id(others, id)
-}
-
-fn has_id(policies: &[Policy], id: &PolicyID) -> bool
-    ensures { result ≡ sets.has_id (policy_id_text id.now) (map policy_view policies.now) }
-{
-    'policies: for policy in policies {
-        if id == policy.id() {
-            return true;
-        }
-    }
-    false
 }
 
 fn id_of(alloc: Global, text: &str) -> Result<PolicyID, PolicyJsonError>

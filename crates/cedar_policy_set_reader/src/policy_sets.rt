@@ -1,4 +1,4 @@
-#![tactic(auto, using(cedar_policy_json_reader::proofs::Refused::refusals, cedar_policy_json_reader::proofs::Lists::lists))]
+#![tactic(auto, using(cedar_policy_json_reader::proofs::Refused::refusals, cedar_policy_json_reader::proofs::Lists::lists, cedar_template_links::proofs::Making::joins))]
 //! Sets of policies, with templates.
 ghost use Rattle.std.specs.Prelude.{◌≡◌, ◌≤◌, ◌+◌, [], ◌∷◌, ◌++◌, Ok, None, map, OnOk, IfOk, IfErr};
 ghost use Rattle.json.specs.Find.{get};
@@ -12,32 +12,35 @@ ghost use Rattle.cedar_policy_json_reader.specs.Paths.{at_key};
 ghost use Rattle.cedar_policy_json_reader.specs.Policies.{policy_by};
 ghost use Rattle.cedar_policy_json_reader.specs.Refusals.{IsRefusal, IsMemory, under};
 ghost use Rattle.cedar_policy_set_reader.specs.PolicySets as sets;
+ghost use Rattle.cedar_template_links.specs.Links.{link_view};
 
-use crate::errors::{refusal, under_key};
 use crate::ids::new_id;
-use crate::shapes::{element_count, member_count, object};
 use cedar_functions::Functions;
 use cedar_layers::policies::{Policy, PolicyID, PolicySet, PolicySetError};
 use cedar_policy_json_reader::{
-    PolicyJsonError, RefusalReason, policy_from_json, template_from_json,
+    PolicyJsonError, RefusalReason, member_count, object, policy_from_json, template_from_json,
 };
+use cedar_template_links::{Link, LinkForm, link_all, links_from_json};
 use json::Value;
-use std::alloc::Global;
+use std::alloc::{AllocError, Global};
 
-/// The policies of a set, and its templates.
+/// The policies of a set, its templates and its links.
 #[derive(Drop)]
 pub struct ReadPolicies {
-    /// The static policies, in the order of the JSON.
+    /// The static policies, in the order of the JSON, and behind them the policies of the links.
     pub policies: PolicySet,
     /// The templates, in the order of the JSON.
     pub templates: Vec<Policy>,
+    /// The links, in the order of the JSON.
+    pub links: Vec<Link>,
 }
 
 /// The set of policies that the JSON value says: an object of `staticPolicies` and `templates`, each an object with ids
-/// for its keys, and of `templateLinks`, an array without elements. Each of the three may be left out. No id comes
-/// twice. The levels of a condition are at most `limit`, and its functions are of these. Refuses with `Refused`, which
-/// holds the path of the part that is refused first, and the reason: static policies are read first, then templates;
-/// `Memory` is out of memory. The time that it takes grows with the square of the number of policies.
+/// for its keys, and of `templateLinks`, an array of links of these templates. Each of the three may be left out. No id
+/// comes twice. The levels of a condition are at most `limit`, and its functions are of these. Refuses with `Refused`,
+/// which holds the path of the part that is refused first, and the reason: static policies are read first, then
+/// templates, then links, and last the policies of the links are made; `Memory` is out of memory. The time that it takes
+/// grows with the square of the number of policies.
 pub fn policy_set_from_json(
     alloc: Global,
     json: &Value<'_>,
@@ -53,9 +56,9 @@ pub fn policy_set_from_json(
         Some(count) => if count == section_count(json) {
             read_sections(alloc, json, functions, limit)
         } else {
-            Err(refusal(alloc, RefusalReason::UnexpectedMember))
+            Err(PolicyJsonError::refusal(alloc, RefusalReason::UnexpectedMember))
         },
-        None => Err(refusal(alloc, RefusalReason::NotAnObject)),
+        None => Err(PolicyJsonError::refusal(alloc, RefusalReason::NotAnObject)),
     }
 }
 
@@ -137,7 +140,7 @@ fn with_links(
         (map policy_view policies.items) (map policy_view templates.items))) }
 {
     match links_at(alloc, json) {
-        Ok(count) => set_of_all(alloc, policies, templates, count),
+        Ok(links) => with_linked(alloc, policies, templates, links),
         Err(error) => {
             drop((policies, templates));
             Err(error)
@@ -145,66 +148,120 @@ fn with_links(
     }
 }
 
-// How many links there are: none.
-fn links_at(alloc: Global, json: &Value<'_>) -> Result<usize, PolicyJsonError>
-    ensures said { IfOk result (λ n. sets.links_at (value_view json.now) ≡ Ok n) }
+// The links; none, where there is no such member.
+fn links_at(alloc: Global, json: &Value<'_>) -> Result<Vec<Link>, PolicyJsonError>
+    ensures said { IfOk result (λ ls. sets.links_at (value_view json.now) ≡ Ok (map link_view ls.items)) }
     ensures refused { IfErr result (IsRefusal (sets.links_at (value_view json.now))) }
 {
     match json.get("templateLinks") {
-        Some(links) => match no_links(alloc, links) {
-            Ok(count) => Ok(count),
-            Err(error) => Err(under_key(alloc, "templateLinks", error)),
+        Some(links) => match links_from_json(alloc, links) {
+            Ok(links) => Ok(links),
+            Err(error) => Err(error.under_key(alloc, "templateLinks")),
         },
-        None => Ok(0),
+        None => Ok(Vec::new(alloc)),
     }
 }
 
-fn no_links(alloc: Global, json: &Value<'_>) -> Result<usize, PolicyJsonError>
-    ensures said { IfOk result (λ n. sets.links_said (value_view json.now) ≡ Ok n) }
-    ensures refused { IfErr result (IsRefusal (sets.links_said (value_view json.now))) }
+// The set with the policies of the links.
+fn with_linked(
+    alloc: Global,
+    policies: Vec<Policy>,
+    templates: Vec<Policy>,
+    links: Vec<Link>,
+) -> Result<ReadPolicies, PolicyJsonError>
+    ensures said { IfOk result (λ r. sets.with_linked (map policy_view policies.items)
+        (map policy_view templates.items) (map link_view links.items) ≡ Ok (sets.set_view r)) }
+    ensures refused { IfErr result (IsRefusal (sets.with_linked (map policy_view policies.items)
+        (map policy_view templates.items) (map link_view links.items))) }
 {
-    match element_count(json) {
-        Some(count) => if count == 0 {
-            Ok(count)
-        } else {
-            Err(refusal(alloc, RefusalReason::UnexpectedMember))
-        },
-        None => Err(refusal(alloc, RefusalReason::NotAnArray)),
+    match linked_policies(alloc, &policies, &templates, &links) {
+        Ok(linked) => set_of_all(alloc, policies, linked, templates, links),
+        Err(error) => {
+            drop((policies, (templates, links)));
+            Err(error)
+        }
+    }
+}
+
+fn linked_policies(
+    alloc: Global,
+    policies: &Vec<Policy>,
+    templates: &Vec<Policy>,
+    links: &Vec<Link>,
+) -> Result<Vec<Policy>, PolicyJsonError>
+    ensures said { IfOk result (λ ps. sets.linked_policies (map policy_view policies.now.items)
+        (map policy_view templates.now.items) (map link_view links.now.items) ≡ Ok (map policy_view ps.items)) }
+    ensures refused { IfErr result (IsRefusal (sets.linked_policies (map policy_view policies.now.items)
+        (map policy_view templates.now.items) (map link_view links.now.items))) }
+{
+    match link_all(alloc, LinkForm::Set, policies, templates, links) {
+        Ok(linked) => Ok(linked),
+        Err(refused) => Err(refused.under_key(alloc, "templateLinks")),
     }
 }
 
 fn set_of_all(
     alloc: Global,
     policies: Vec<Policy>,
+    linked: Vec<Policy>,
     templates: Vec<Policy>,
-    count: usize,
+    links: Vec<Link>,
 ) -> Result<ReadPolicies, PolicyJsonError>
-    ensures said { IfOk result (λ r. sets.set_of_all (map policy_view templates.items) (map policy_view policies.items)
-        count ≡ Ok (sets.set_view r)) }
-    ensures refused { IfErr result
-        (IsRefusal (sets.set_of_all (map policy_view templates.items) (map policy_view policies.items) count)) }
+    ensures said { IfOk result (λ r. sets.set_of_all (map policy_view policies.items) (map policy_view templates.items)
+        (map link_view links.items) (map policy_view linked.items) ≡ Ok (sets.set_view r)) }
+    ensures refused { IfErr result (IsRefusal (sets.set_of_all (map policy_view policies.items)
+        (map policy_view templates.items) (map link_view links.items) (map policy_view linked.items))) }
 {
-    match PolicySet::try_from_iter(alloc, policies) {
-        Ok(set) => Ok(set_with(set, templates)),
-        Err(PolicySetError::Occupied { id: _ }) => {
-            drop(templates);
-            Err(refusal(alloc, RefusalReason::RepeatedKey))
-        }
-        Err(PolicySetError::Memory(error)) => {
-            drop(templates);
+    match joined(policies, linked) {
+        Ok(policies) => set_of(alloc, policies, templates, links),
+        Err(error) => {
+            drop((templates, links));
             Err(PolicyJsonError::Memory(error))
         }
     }
 }
 
-fn set_with(policies: PolicySet, templates: Vec<Policy>) -> ReadPolicies
-    ensures said { sets.set_of_all (map policy_view templates.items) (policies_view policies) 0
+fn joined(mut policies: Vec<Policy>, mut linked: Vec<Policy>) -> Result<Vec<Policy>, AllocError>
+    ensures { IfOk result
+        (λ ps. map policy_view ps.items ≡ map policy_view policies.items ++ map policy_view linked.items) }
+{
+    policies.append(&mut linked)?;
+    Ok(policies)
+}
+
+fn set_of(
+    alloc: Global,
+    policies: Vec<Policy>,
+    templates: Vec<Policy>,
+    links: Vec<Link>,
+) -> Result<ReadPolicies, PolicyJsonError>
+    ensures said { IfOk result (λ r. sets.set_of (map policy_view templates.items) (map link_view links.items)
+        (map policy_view policies.items) ≡ Ok (sets.set_view r)) }
+    ensures refused { IfErr result (IsRefusal (sets.set_of (map policy_view templates.items)
+        (map link_view links.items) (map policy_view policies.items))) }
+{
+    match PolicySet::try_from_iter(alloc, policies) {
+        Ok(set) => Ok(set_with(set, templates, links)),
+        Err(PolicySetError::Occupied { id: _ }) => {
+            drop((templates, links));
+            Err(PolicyJsonError::refusal(alloc, RefusalReason::RepeatedKey))
+        }
+        Err(PolicySetError::Memory(error)) => {
+            drop((templates, links));
+            Err(PolicyJsonError::Memory(error))
+        }
+    }
+}
+
+fn set_with(policies: PolicySet, templates: Vec<Policy>, links: Vec<Link>) -> ReadPolicies
+    ensures said { sets.set_of (map policy_view templates.items) (map link_view links.items) (policies_view policies)
         ≡ Ok (sets.set_view result) }
 {
     drop(policies.policies());
     ReadPolicies {
         policies,
         templates,
+        links,
     }
 }
 
@@ -230,7 +287,7 @@ fn policies_at(
     match json.get(key) {
         Some(members) => match read_members(alloc, is_open, members, others, functions, limit) {
             Ok(policies) => Ok(policies),
-            Err(error) => Err(under_key(alloc, key, error)),
+            Err(error) => Err(error.under_key(alloc, key)),
         },
         None => Ok(Vec::new(alloc)),
     }
@@ -251,7 +308,7 @@ fn read_members(
 {
     match object(json) {
         Some(members) => read_each(alloc, is_open, members, others, functions, limit),
-        None => Err(refusal(alloc, RefusalReason::NotAnObject)),
+        None => Err(PolicyJsonError::refusal(alloc, RefusalReason::NotAnObject)),
     }
 }
 
@@ -334,7 +391,7 @@ fn put_member(
         alloc, is_open, key, value, others, policies, functions, limit,
     ) {
         Ok(policy) => put_policy(policy, policies),
-        Err(error) => Err(under_key(alloc, key, error)),
+        Err(error) => Err(error.under_key(alloc, key)),
     }
 }
 

@@ -1,18 +1,15 @@
 #![tactic(auto, using(cedar_policy_json_reader::proofs::TextLemmas::text_lemmas))]
 //! JSON texts.
-ghost use Rattle.std.specs.Prelude.{◌≡◌, Some, IfOk, IfErr};
-ghost use Rattle.json.specs.Json.{document};
-ghost use Rattle.json.specs.Strict.{HasUniqueKeys};
-ghost use Rattle.json.specs.Value.{value_view};
+ghost use Rattle.std.specs.Prelude.{IfOk, IfErr};
 ghost use Rattle.cedar_functions.specs.Functions.{knowledge};
-ghost use Rattle.cedar_policy_json_reader.specs.JsonTexts.{IsUnread, Says, IsTextRefusal};
+ghost use Rattle.cedar_policy_json_reader.specs.JsonTexts.{Says, IsTextRefusal};
 ghost use Rattle.cedar_policy_set_reader.specs.PolicySets.{policy_set_said, set_view};
 
 use crate::policy_sets::{ReadPolicies, policy_set_from_json};
 use cedar_functions::Functions;
-use cedar_policy_json_reader::PolicyJsonError;
-use json::{Error, Scratch, Value};
-use std::alloc::{AllocError, Global};
+use cedar_policy_json_reader::{PolicyJsonError, parse_json};
+use json::Scratch;
+use std::alloc::Global;
 
 /// The set of policies that the text says, as `policy_set_from_json` reads it. `Syntax` where the text is no JSON or
 /// nests deeper than 128 levels, `DuplicateKey` where an object of it has a key twice, and `Refused` as
@@ -30,24 +27,5 @@ pub fn policy_set_from_json_str(
     match parse_json(alloc, text, &mut scratch) {
         Ok(value) => policy_set_from_json(alloc, &value, functions, limit),
         Err(error) => Err(error),
-    }
-}
-
-// The JSON value that the text is.
-fn parse_json<'a>(
-    alloc: Global,
-    text: &'a str,
-    scratch: &'a mut Scratch,
-) -> Result<Value<'a>, PolicyJsonError>
-    ensures said { IfOk result (λ v. document text.now ≡ Some (value_view v)) }
-    ensures unique { IfOk result (λ v. HasUniqueKeys (value_view v)) }
-    ensures unread { IfErr result (IsUnread text.now) }
-{
-    match Value::parse_strict(alloc, text, scratch) {
-        Ok(value) => Ok(value),
-        Err(Error::Invalid) => Err(PolicyJsonError::Syntax),
-        Err(Error::TooLong) => Err(PolicyJsonError::Syntax),
-        Err(Error::DuplicateKey) => Err(PolicyJsonError::DuplicateKey),
-        Err(Error::OutOfMemory) => Err(PolicyJsonError::Memory(AllocError)),
     }
 }

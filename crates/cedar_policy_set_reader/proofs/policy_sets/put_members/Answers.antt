@@ -9,7 +9,7 @@ use Rattle.cedar_policy_json_reader.specs.Expressions.{expression_said}
 use Rattle.cedar_policy_json_reader.specs.Paths.{at_key}
 use Rattle.cedar_policy_json_reader.specs.Refusals.{under}
 use Rattle.cedar_policy_set_reader.specs.PolicySets.{member_said, members_from}
-use Rattle.cedar_policy_set_reader.proofs.Reading.{then_on}
+use Rattle.cedar_template_links.proofs.Making.{then_on}
 use Rattle.cedar_policy_set_reader.proofs.policy_sets.put_members.Goals as goal
 
 pub members-preserved : goal.members-preserved

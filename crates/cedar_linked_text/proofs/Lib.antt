@@ -1,0 +1,3 @@
+pub mod ListTexts
+pub mod Linked
+pub mod Added
