@@ -72,7 +72,7 @@ pub fn read_evaluation<'v, 'a>(value: &'v Value<'a>) -> Result<Evaluation<'v, 'a
 }
 
 /// What the object of these members asks, with the members of `all` where it has none.
-pub fn evaluation_of<'v, 'a>(
+pub(crate) fn evaluation_of<'v, 'a>(
     keys: Keys,
     value: &'v Value<'a>,
     all: Option<&'v Value<'a>>,

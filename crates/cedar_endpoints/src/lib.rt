@@ -37,14 +37,12 @@ mod several;
 mod tokens;
 
 pub use answers::Status;
-pub use asked::{Evaluation, Fault, Keys, Named, evaluation_of, read_evaluation};
+pub use asked::{Evaluation, Fault, Keys, Named, read_evaluation};
 pub use decider::Decider;
 pub use lines::answer_lines;
 pub use partials::{Entry, Partial, read_partial};
-pub use reloads::replaced_by;
 pub use replies::{Finding, NotRemade, Outcome, Remainder, Reply, fault_json};
 pub use routes::{Replaced, Route, route_of};
 pub use searches::{PageSearch, Parts, Search, Sought, read_search};
 pub use semantics::Semantic;
-pub use service::{Decisions, asked_route, reply, send_to};
-pub use several::{Several, read_several};
+pub use service::Decisions;

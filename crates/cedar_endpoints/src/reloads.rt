@@ -22,7 +22,7 @@ pub(crate) enum Untaken {
 }
 
 /// Which of the two the route is to replace, where that is allowed.
-pub fn replaced_by(allows: bool, route: Route) -> Option<Replaced>
+pub(crate) fn replaced_by(allows: bool, route: Route) -> Option<Replaced>
     ensures { result ≡ replaced_by allows route }
 {
     if allows { replaced(route) } else { None }

@@ -82,8 +82,8 @@ impl<D: Decider> Service for Decisions<D> {
     }
 }
 
-/// Which endpoint the request names.
-pub fn asked_route(request: &Request<Bytes>) -> Route
+// Which endpoint the request names.
+fn asked_route(request: &Request<Bytes>) -> Route
     ensures { result ≡ asked_route request.now }
 {
     route_of(request.method().as_str(), request.uri().path())
@@ -117,9 +117,8 @@ fn respond<D: Decider>(
     )
 }
 
-/// Puts the status, the body, which is JSON, the version and the request's id, where it has one, into a response that
-/// has nothing yet. Refuses only if out of memory.
-pub fn send_to(
+// Sends it with the request's id.
+fn send_to(
     alloc: Global,
     status: Status,
     version: &str,
@@ -230,12 +229,7 @@ fn keep<D: Decider>(
 
 // ---- what is replied
 
-/// What is replied to a body at an endpoint at which nothing is replaced. Refuses only if out of memory.
-pub fn reply<D: Decider>(
-    service: &Decisions<D>,
-    route: Route,
-    body: &[u8],
-) -> Result<Reply, AllocError>
+fn reply<D: Decider>(service: &Decisions<D>, route: Route, body: &[u8]) -> Result<Reply, AllocError>
     requires { replaced_by service.now.allows_reload route ≡ None }
     ensures { IfOk result (IsReply (offered
         (D.decides service.now.decider) (D.authorizes service.now.decider) (D.leaves service.now.decider)

@@ -12,14 +12,14 @@ use json::Value;
 
 /// Several evaluations: where they stop, and the items, of which there is one at least.
 #[derive(Clone, Copy)]
-pub struct Several<'v, 'a> {
-    pub semantic: Semantic,
-    pub items: &'v Vec<Value<'a>>,
+pub(crate) struct Several<'v, 'a> {
+    pub(crate) semantic: Semantic,
+    pub(crate) items: &'v Vec<Value<'a>>,
 }
 
 /// The list of the document, if it has one with an item. Refuses what is no object, a member that is unexpected, options
 /// that are wrong, and a list that is none: the first of these.
-pub fn read_several<'v, 'a>(value: &'v Value<'a>) -> Result<Option<Several<'v, 'a>>, Fault>
+pub(crate) fn read_several<'v, 'a>(value: &'v Value<'a>) -> Result<Option<Several<'v, 'a>>, Fault>
     ensures { told (option_map several.several_view) result ≡ several.several_said (value_view value.now) }
 {
     match object_fault(Keys::Evaluations, "", value) {
