@@ -35,7 +35,8 @@ pub(crate) fn put_uids(
     uids: &mut BTreeSet<EntityUID>,
     more: &BTreeSet<EntityUID>,
 ) -> Result<(), AllocError>
-    ensures { OnOk result (named_in uids.new.keys ≡ with_names (named_in uids.old.keys) (map uid_name more.now.keys)) }
+    ensures { OnOk result
+        (named_in uids.new.keys ≡ with_names (named_in uids.old.keys) (map uid_name more.now.keys)) }
 {
     'uids: for uid in more {
         put_uid(uids, uid)?;
