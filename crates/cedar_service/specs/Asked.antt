@@ -1,5 +1,6 @@
 -- Which request an evaluation asks, and why it asks none.
 use Rattle.std.specs.Prelude.{◌≡◌, ⊤, ℕ, Bool, true, false, Option, Some, None, Ok, Err, codes}
+use Rattle.json.specs.Find.{get}
 use Rattle.json.specs.Json.{Json, object, member, no_members, string}
 use Rattle.cedar_model.specs.Terms.{Text, EntityName, Term}
 use Rattle.cedar_model.specs.Values.{no_represented_at}
@@ -22,11 +23,9 @@ use Rattle.cedar_json_reader.specs.SaidContexts.{context_said, IsContextOf}
 use Rattle.cedar_json_reader.specs.SaidRequests.{IsRequestOf, IsRequestRefusal}
 use Rattle.cedar_json_reader.specs.declared.errors.JsonError.{JsonError}
 use Rattle.cedar_endpoints.specs.Asked.{Evaluation, Named}
+use Rattle.cedar_service.specs.Documents.{without_entities}
 use Rattle.cedar_service.specs.Faults.{IsFault, IsFaultBelow, IsOfJson}
-
--- how many levels a text may have
-abbrev pub levels : ℕ
-levels = 4000
+pub use Rattle.cedar_service.specs.Levels.{levels}
 
 -- ---- the request of an evaluation
 
@@ -90,12 +89,30 @@ pub data IsUnasked (X : world.Extensions) (calls : StoredCalls) (q : Evaluation)
 
 -- ---- Cedar's own request
 
+-- the JSON of a request, but for the entities that it brings, if it brings some
+abbrev pub request_in : Option Json → Json → Json
+request_in None j = j
+request_in (Some es) j = without_entities j
+
+abbrev pub request_json : Json → Json
+request_json j = request_in (get (codes "entities") j) j
+
 -- the request that the text says
 abbrev pub IsSaid : world.Extensions → StoredCalls → Text → Request → Type 0
-IsSaid X calls text r = SaysSo text (λ j. IsRequestOf X calls levels j r)
+IsSaid X calls text r = SaysSo text (λ j. IsRequestOf X calls levels (request_json j) r)
 
 -- the text says none, as the reader's error tells
 pub record IsUnsaid (X : world.Extensions) (calls : StoredCalls) (text : Text) (t : Text) : Type 0 where
+  pub error : JsonError
+  pub of_json : IsOfJson error
+  pub refused : IsTextError text (λ j e. IsRequestRefusal X calls levels (request_json j) e) error
+  pub told : IsFaultBelow (codes "$") t
+
+-- the same of a text that brings no entities, for private clauses
+abbrev pub IsSaidBy : world.Extensions → StoredCalls → Text → Request → Type 0
+IsSaidBy X calls text r = SaysSo text (λ j. IsRequestOf X calls levels j r)
+
+pub record IsUnsaidBy (X : world.Extensions) (calls : StoredCalls) (text : Text) (t : Text) : Type 0 where
   pub error : JsonError
   pub of_json : IsOfJson error
   pub refused : IsTextError text (λ j e. IsRequestRefusal X calls levels j e) error
