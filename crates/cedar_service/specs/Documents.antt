@@ -1,5 +1,6 @@
 -- JSON documents, and texts of their parts.
-use Rattle.std.specs.Prelude.{◌≡◌, ◌≤◌, if◌then◌else◌, Some, bytes_eq, codes}
+use Rattle.std.specs.Prelude.{◌≡◌, ◌≤◌, ◌++◌, ◌∷◌, [], ℕ, List, if◌then◌else◌, Some, bytes_eq, codes}
+use Rattle.std.specs.Borrow.{Bor}
 use Rattle.json.specs.Json.{Json, null, boolean, number, string, array, object, Members, no_members, member, document, max_depth}
 use Rattle.json.specs.Strict.{HasUniqueKeys}
 use Rattle.json.specs.Tree.{depth, HasNumbers}
@@ -33,3 +34,7 @@ without_entities (number n) = number n
 without_entities (string t) = string t
 without_entities (array js) = array js
 without_entities (object ms) = object (without (codes "entities") ms)
+
+-- the members, and this one behind them unless it is of this key; for private clauses
+abbrev pub with_beside : {V : Type 0} → Text → List (Bor (List ℕ) × V) → Bor (List ℕ) × V → List (Bor (List ℕ) × V)
+with_beside k ms m = if bytes_eq m.0.now k then ms else (ms ++ m ∷ [])

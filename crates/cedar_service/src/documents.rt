@@ -2,7 +2,7 @@
 ghost use Rattle.std.specs.Prelude.{◌≡◌, ◌∷◌, [], ◌++◌, IfOk, IfErr, OnOk, codes, string_bytes};
 ghost use Rattle.json.specs.Value.{value_view, members_view};
 ghost use Rattle.cedar_json_reader.specs.JsonTexts.{IsUnread};
-ghost use Rattle.cedar_service.specs.Documents.{IsReadAs, IsWritable, IsTextFor, without, without_entities};
+ghost use Rattle.cedar_service.specs.Documents.{IsReadAs, IsWritable, IsTextFor, without, without_entities, with_beside};
 
 use cedar_fallible::add_last;
 use cedar_json_reader::JsonError;
@@ -72,11 +72,22 @@ fn members_beside<'a>(
 {
     let mut rest: Vec<(&'a str, Value<'a>)> = Vec::new(alloc);
     'members: for member in members {
-        if member.0 == "entities" {
-            drop(member);
-        } else {
-            add_last(&mut rest, member)?;
-        }
+        put_beside(member, &mut rest)?;
     }
     Ok(rest)
+}
+
+// Puts the member behind those that are there, unless it is `entities`.
+fn put_beside<'a>(
+    member: (&'a str, Value<'a>),
+    rest: &mut Vec<(&'a str, Value<'a>)>,
+) -> Result<(), AllocError>
+    ensures { OnOk result (rest.new.items ≡ with_beside (codes "entities") rest.old.items member.entry) }
+{
+    if member.0 == "entities" {
+        drop(member);
+        Ok(())
+    } else {
+        add_last(rest, member)
+    }
 }

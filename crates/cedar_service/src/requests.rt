@@ -171,12 +171,11 @@ pub(crate) fn request_said(
     ensures refused { IfErr result (IsToldAs
         (IsUnsaid (extensions_view extensions.now) (calls_of extensions.now) text.now)) }
 {
-    match brings_entities(&value) {
-        true => said_beside(alloc, value, extensions),
-        false => {
-            drop(value);
-            said_by(alloc, text, extensions)
-        }
+    if brings_entities(&value) {
+        said_beside(alloc, value, extensions)
+    } else {
+        drop(value);
+        said_by(alloc, text, extensions)
     }
 }
 
