@@ -1,5 +1,5 @@
 -- Objects that have a member, and arrays that have an item.
-use Rattle.std.proofs.Common.{◌≡◌, List, ℕ, [], ◌∷◌, ◌==◌, length, not, Some, codes, false, refl}
+use Rattle.std.proofs.Common.{◌≡◌, List, ℕ, [], ◌∷◌, ◌==◌, length, Some, codes, true, false, refl}
 use Rattle.std.specs.Borrow.{Bor}
 use Rattle.json.specs.Value.{members_view, items_view}
 use Rattle.json.specs.declared.value.Value.{Value}
@@ -11,9 +11,10 @@ pub some_given : {A : Type 0} (part : Text) (ms : List (Bor (List ℕ) × Value 
 some_given part [] h = absurd (cc)
 some_given part (m ∷ ms) h = refl
 
-pub some_members : {A : Type 0} (ms : List (Bor (List ℕ) × Value A)) → not (length ms == 0) ≡ has_members (Some (members_view ms))
-some_members [] = refl
-some_members (m ∷ ms) = refl
+pub some_members : {A : Type 0} (ms : List (Bor (List ℕ) × Value A)) → (length ms == 0) ≡ false
+    → true ≡ has_members (Some (members_view ms))
+some_members [] h = absurd (cc)
+some_members (m ∷ ms) h = refl
 
 pub some_listed : {A : Type 0} (vs : List (Value A)) → (length vs == 0) ≡ false
     → Some (items_view vs) ≡ some_items (items_view vs)

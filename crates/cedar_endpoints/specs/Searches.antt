@@ -130,10 +130,11 @@ known_properties (a_resource s a t) j = record {
   resource = None;
 }
 
+abbrev pub search_of : Json → Parts → Option Json → Search
+search_of j ps c = record { parts = ps; context = c; properties = known_properties ps j }
+
 abbrev pub with_context : Json → Parts → Said PageSearch
-with_context j ps =
-    and_then (λ c. with_page j (record { parts = ps; context = c; properties = known_properties ps j }))
-    (context_said (get (codes "context") j))
+with_context j ps = and_then (λ c. with_page j (search_of j ps c)) (context_said (get (codes "context") j))
 
 -- which members a search has
 abbrev pub keys_of : Sought → Keys

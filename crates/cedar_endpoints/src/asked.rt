@@ -536,7 +536,7 @@ fn has_members(value: &Value<'_>) -> bool
 fn has_some(members: &[(&str, Value<'_>)]) -> bool
     ensures { result ≡ asked.has_members (Some (members_view members.now)) }
 {
-    !members.is_empty()
+    if members.is_empty() { false } else { true }
 }
 
 // The members, where the value is an object.

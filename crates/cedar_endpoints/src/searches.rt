@@ -236,15 +236,24 @@ fn with_context<'v, 'a>(value: &'v Value<'a>, parts: Parts<'v>) -> Result<PageSe
         ≡ searches.with_context (value_view value.now) (searches.parts_view parts.entry) }
 {
     match context_of(value.get("context")) {
-        Ok(context) => with_page(
-            value,
-            Search {
-                parts,
-                context,
-                properties: known_properties(parts, value),
-            },
-        ),
+        Ok(context) => with_page(value, search_of(value, parts, context)),
         Err(fault) => Err(fault),
+    }
+}
+
+fn search_of<'v, 'a>(
+    value: &'v Value<'a>,
+    parts: Parts<'v>,
+    context: Option<&'v Value<'a>>,
+) -> Search<'v, 'a>
+    ensures { searches.search_view result
+        ≡ searches.search_of (value_view value.now) (searches.parts_view parts.entry)
+        (option_map (λ v. value_view v.now) context.entry) }
+{
+    Search {
+        parts,
+        context,
+        properties: known_properties(parts, value),
     }
 }
 

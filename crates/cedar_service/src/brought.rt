@@ -1,5 +1,5 @@
 //! Entities that a request brings beside those that are stored.
-ghost use Rattle.std.specs.Prelude.{◌≡◌, IfOk, IfErr, Some, option_map, codes};
+ghost use Rattle.std.specs.Prelude.{◌≡◌, ◌==◌, false, length, IfOk, IfErr, Some, option_map, codes};
 ghost use Rattle.json.specs.Find.{get};
 ghost use Rattle.json.specs.Value.{value_view};
 ghost use Rattle.cedar_extensions.specs.Extensions.{extensions_view, calls_of};
@@ -143,6 +143,7 @@ fn add_entities(
     text: &str,
     entities: Vec<Entity>,
 ) -> Result<Option<Entities>, Refusal>
+    requires { (length entities.items == 0) ≡ false }
     ensures over { IfOk result (λ o. IsOver (base_entities base.now) entities.items
         (laid_or (base_entities base.now) o)) }
     ensures refused { IfErr result (IsToldAs (IsNotOver (base_entities base.now) entities.items)) }

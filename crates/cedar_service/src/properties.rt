@@ -364,10 +364,19 @@ fn put(
     ensures laid { IfOk result (IsLaidOver request_wins store.now (uid_name uid) attributes) }
     ensures refused { IfErr result (IsToldAs (AreTaken request_wins store.now (uid_name uid) attributes path.now)) }
 {
-    if store.get(&uid).is_some() {
+    if is_stored(store, &uid) {
         put_beside(alloc, store, uid, attributes, path, request_wins)
     } else {
         put_alone(alloc, store, uid, attributes)
+    }
+}
+
+fn is_stored(store: &Entities, uid: &EntityUID) -> bool
+    ensures { result ≡ is_some ((store_view store.now).entity (uid_name uid.now)) }
+{
+    match store.get(uid) {
+        Some(_) => true,
+        None => false,
     }
 }
 
@@ -386,7 +395,11 @@ fn put_beside(
     match of_one(alloc, uid, attributes) {
         Ok(brought) => match with_attributes(alloc, store, brought, request_wins) {
             Ok(made) => Ok(made),
-            Err(error) => Err(refuse_attributes(alloc, path, error)),
+            Err(error) => {
+                let refusal = refuse_attributes(alloc, path, &error);
+                drop(error);
+                Err(refusal)
+            }
         },
         Err(AllocError) => Err(Refusal::Memory),
     }
@@ -443,17 +456,15 @@ fn with_one(
 
 // Why they were not put: at the one that is taken.
 #[cold]
-fn refuse_attributes(alloc: Global, path: &str, error: AttributesError) -> Refusal
-    ensures reason { IsToldAs (λ _. IsOfAttributes error) result }
+fn refuse_attributes(alloc: Global, path: &str, error: &AttributesError) -> Refusal
+    ensures reason { IsToldAs (λ _. IsOfAttributes error.now) result }
     ensures fault { IsToldAs (IsFaultBelow path.now) result }
 {
-    let refusal = match &error {
+    match error {
         AttributesError::Memory(_) => Refusal::Memory,
         AttributesError::NotStored(_) => refuse_below(alloc, path, "not stored"),
-        AttributesError::HasAttribute(_, name) => refuse_taken(alloc, path, name, &error),
-    };
-    drop(error);
-    refusal
+        AttributesError::HasAttribute(_, name) => refuse_taken(alloc, path, name, error),
+    }
 }
 
 fn refuse_taken(alloc: Global, path: &str, name: &RcStr, error: &AttributesError) -> Refusal
