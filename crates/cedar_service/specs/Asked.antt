@@ -146,3 +146,10 @@ uid_json n =
     object (member (codes "__entity")
     (object (member (codes "type") (string n.type_name) (member (codes "id") (string n.id) no_members)))
     no_members)
+
+-- the request that the JSON says beside entities, or why it says none
+abbrev pub IsSaidBeside : world.Extensions → StoredCalls → Json → Request → Type 0
+IsSaidBeside X calls j r = (t : Text) × IsTextFor (without_entities j) t × IsSaidBy X calls t r
+
+abbrev pub IsUnsaidBeside : world.Extensions → StoredCalls → Json → Text → Type 0
+IsUnsaidBeside X calls j s = (t : Text) × IsTextFor (without_entities j) t × IsUnsaidBy X calls t s

@@ -9,9 +9,9 @@ ghost use Rattle.cedar_requests.specs.Requests.{request_view};
 ghost use Rattle.cedar_endpoints.specs.Asked.{evaluation_view, named_view};
 ghost use Rattle.json.specs.Find.{get};
 ghost use Rattle.json.specs.Value.{value_view};
-ghost use Rattle.cedar_model.specs.Terms.{Text};
-ghost use Rattle.cedar_service.specs.Documents.{IsReadAs, IsWritable, IsTextFor, without_entities};
-ghost use Rattle.cedar_service.specs.Asked.{IsAsked, IsUnasked, AreUnnamed, IsSaid, IsUnsaid, IsSaidBy, IsUnsaidBy};
+ghost use Rattle.cedar_service.specs.Documents.{IsReadAs, IsWritable};
+ghost use Rattle.cedar_service.specs.Asked.{IsAsked, IsUnasked, AreUnnamed, IsSaid, IsUnsaid};
+ghost use Rattle.cedar_service.specs.Asked.{IsSaidBy, IsUnsaidBy, IsSaidBeside, IsUnsaidBeside};
 ghost use Rattle.cedar_service.specs.Asked.{entity_said, action_named, has_known_context, is_known_part};
 ghost use Rattle.cedar_service.specs.Faults.{IsToldAs};
 
@@ -208,10 +208,10 @@ fn said_beside(
     extensions: &Extensions<'_>,
 ) -> Result<Request, Refusal>
     requires { IsWritable (value_view value) }
-    ensures said { IfOk result (λ r. (t : Text) × IsTextFor (without_entities (value_view value)) t
-        × IsSaidBy (extensions_view extensions.now) (calls_of extensions.now) t r) }
-    ensures refused { IfErr result (IsToldAs (λ s. (t : Text) × IsTextFor (without_entities (value_view value)) t
-        × IsUnsaidBy (extensions_view extensions.now) (calls_of extensions.now) t s)) }
+    ensures said { IfOk result (IsSaidBeside (extensions_view extensions.now) (calls_of extensions.now)
+        (value_view value)) }
+    ensures refused { IfErr result (IsToldAs (IsUnsaidBeside (extensions_view extensions.now)
+        (calls_of extensions.now) (value_view value))) }
 {
     match rest_text(alloc, value) {
         Ok(text) => {

@@ -4,7 +4,7 @@ use Rattle.json.specs.Find.{get}
 use Rattle.json.specs.Json.{Json, document}
 use Rattle.json.specs.Value.{value_view}
 use Rattle.cedar_model.specs.Terms.{Text}
-use Rattle.cedar_service.specs.Asked.{request_json, IsRequestText, IsSaid, IsUnsaid, IsSaidBy, IsUnsaidBy}
+use Rattle.cedar_service.specs.Asked.{request_json, IsRequestText, IsSaid, IsUnsaid, IsSaidBy, IsUnsaidBy, IsSaidBeside, IsUnsaidBeside}
 use Rattle.cedar_service.specs.Documents.{IsTextFor, without_entities}
 use Rattle.cedar_service.specs.Faults.{IsToldAs}
 use Rattle.cedar_service.proofs.Composed.{of_ok, of_err, because}
@@ -27,7 +27,7 @@ returns-then-brings_entities-clause-said g c =
     let x = c.args.extensions.now in
     let j = value_view c.args.value in
     let same = request_beside (get (codes "entities") j) j (sym c.brings_entities.ensures ∙ c.if-brings_entities.true) in
-    of_ok (λ r. (t : Text) × IsTextFor (without_entities j) t × IsSaidBy (extensions_view x) (calls_of x) t r) (IsSaid (extensions_view x) (calls_of x) c.args.text.now)
+    of_ok (IsSaidBeside (extensions_view x) (calls_of x) j) (IsSaid (extensions_view x) (calls_of x) c.args.text.now)
     (λ r h. (h.0, beside c.args.text.now j h.0 c.requires.is_json same h.1, h.2)) c.said_beside.result
     c.said_beside.ensures.said
 
@@ -36,7 +36,7 @@ returns-then-brings_entities-clause-refused g c =
     let x = c.args.extensions.now in
     let j = value_view c.args.value in
     let same = request_beside (get (codes "entities") j) j (sym c.brings_entities.ensures ∙ c.if-brings_entities.true) in
-    let By : Text → Type 0 = λ s. (t : Text) × IsTextFor (without_entities j) t × IsUnsaidBy (extensions_view x) (calls_of x) t s in
+    let By = IsUnsaidBeside (extensions_view x) (calls_of x) j in
     of_err (IsToldAs By) (IsToldAs (IsUnsaid (extensions_view x) (calls_of x) c.args.text.now)) (because By (IsUnsaid (extensions_view x) (calls_of x) c.args.text.now)
     (λ u h. (h.0, beside c.args.text.now j h.0 c.requires.is_json same h.1, h.2))) c.said_beside.result
     c.said_beside.ensures.refused

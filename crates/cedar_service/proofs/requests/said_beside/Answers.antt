@@ -2,7 +2,7 @@ use Rattle.cedar_extensions.specs.Extensions.{extensions_view, calls_of}
 use Rattle.std.proofs.Common.{string_bytes}
 use Rattle.json.specs.Value.{value_view}
 use Rattle.cedar_model.specs.Terms.{Text}
-use Rattle.cedar_service.specs.Asked.{IsSaidBy, IsUnsaidBy}
+use Rattle.cedar_service.specs.Asked.{IsSaidBy, IsUnsaidBy, IsSaidBeside, IsUnsaidBeside}
 use Rattle.cedar_service.specs.Documents.{IsTextFor, without_entities}
 use Rattle.cedar_service.specs.Faults.{IsToldAs}
 use Rattle.cedar_service.proofs.Composed.{of_ok, of_err, because}
@@ -13,7 +13,7 @@ returns-in-Ok-clause-said g c =
     let x = c.args.extensions.now in
     let j = value_view c.args.value in
     let u = string_bytes c.in-Ok.text in
-    of_ok (IsSaidBy (extensions_view x) (calls_of x) u) (λ r. (t : Text) × IsTextFor (without_entities j) t × IsSaidBy (extensions_view x) (calls_of x) t r)
+    of_ok (IsSaidBy (extensions_view x) (calls_of x) u) (IsSaidBeside (extensions_view x) (calls_of x) j)
     (λ r h. (u, c.in-Ok.ensures, h)) c.said_by-said.result c.said_by-said.ensures.said
 
 pub returns-in-Ok-clause-refused : goal.returns-in-Ok-clause-refused
@@ -21,6 +21,6 @@ returns-in-Ok-clause-refused g c =
     let x = c.args.extensions.now in
     let j = value_view c.args.value in
     let u = string_bytes c.in-Ok.text in
-    let By : Text → Type 0 = λ s. (t : Text) × IsTextFor (without_entities j) t × IsUnsaidBy (extensions_view x) (calls_of x) t s in
+    let By = IsUnsaidBeside (extensions_view x) (calls_of x) j in
     of_err (IsToldAs (IsUnsaidBy (extensions_view x) (calls_of x) u)) (IsToldAs By) (because (IsUnsaidBy (extensions_view x) (calls_of x) u) By (λ s h. (u, c.in-Ok.ensures, h)))
     c.said_by-said.result c.said_by-said.ensures.refused
