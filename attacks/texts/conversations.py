@@ -2,7 +2,7 @@
 
     python3 conversations.py write             writes `stdin` and `stdout` of crates/cedar_serve
     python3 conversations.py run PROGRAM       compares what a built program answers to this conversation, to the same in pieces, and
-                                               to each request that ends a connection
+                                               to each request that ends a connection; and what it answers where the request wins
 
 Decisions, reasons and which policies err come from `evaluator.py` over the policies and entities of crates/cedar_serve/data, which
 `cedar_reader.py` and `json_texts.py` read; where an extension is called the reasons stand beside the request. Status, fields, bodies
@@ -562,6 +562,16 @@ PROPERTIES = [
 ]
 
 
+# With `--request-attributes-win`, which the conversation is not started with.
+WINNING = [
+    HERE.evaluates("the owner of a request", by(BOB, "delete", PLAN, of_resource={"owner": {"__entity": said(BOB)}}), True),
+    HERE.evaluates("the owner that is stored, then", by(BOB, "delete", PLAN)),
+    HERE.evaluates("a seal that is broken", by(ANN, "read", VAULT, of_resource={"sealed": False, "pages": 3}), True),
+    HERE.evaluates("the parents stay", by(ANN, "read", MENU, of_subject={"age": 1}, of_resource={"sealed": False}), True),
+    HERE.evaluates("of two that are one entity the later", by(ANN, "delete", ANN, {"owner": {"__entity": said(BOB)}}, None, {"owner": USED}), True),
+]
+
+
 def evaluates_all(what, world, all, items, wanted, semantic=None):
     body = all | {"evaluations": items} | ({} if semantic is None else {"options": {"evaluations_semantic": semantic}})
     return (what, request("POST", EVALUATIONS, body), due(200, {"evaluations": wanted}, of=world.version))
@@ -880,6 +890,7 @@ def run(program):
         check("the same in pieces", [sent[a:b] for a, b in zip([0, *cuts], [*cuts, len(sent)])], wanted)
     for what, last, ends in LAST:
         check(what, [request("POST", EVALUATION, GOOD) + last], due(200, GOOD_DUE) + ends)
+    check("the request wins", [it[1] for it in WINNING], b"".join(it[2] for it in WINNING), [*options(), "--request-attributes-win"])
     sent, wanted = lines()
     words = [*options()[:4], "--lines"]
     check("lines", [sent], wanted, words)

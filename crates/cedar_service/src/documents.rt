@@ -42,7 +42,7 @@ pub(crate) fn text_of(alloc: Global, value: &Value<'_>) -> Result<String, AllocE
 /// A text that is this JSON but for its member `entities`.
 pub(crate) fn rest_text(alloc: Global, value: Value<'_>) -> Result<String, AllocError>
     requires { IsWritable (value_view value) }
-    ensures { IfOk result (λ s. IsTextFor (without_entities (value_view value)) (string_bytes s)) }
+    ensures { IfOk result (λ s. IsTextFor (without_entities (value_view value.entry)) (string_bytes s)) }
 {
     let rest = rest_of(alloc, value)?;
     let text = text_of(alloc, &rest);
@@ -51,7 +51,7 @@ pub(crate) fn rest_text(alloc: Global, value: Value<'_>) -> Result<String, Alloc
 }
 
 fn rest_of<'a>(alloc: Global, value: Value<'a>) -> Result<Value<'a>, AllocError>
-    ensures { IfOk result (λ v. value_view v ≡ without_entities (value_view value)) }
+    ensures { IfOk result (λ v. value_view v ≡ without_entities (value_view value.entry)) }
 {
     match value {
         Value::Object(members) => Ok(Value::Object(members_beside(alloc, members)?)),
@@ -68,7 +68,7 @@ fn members_beside<'a>(
     alloc: Global,
     members: Vec<(&'a str, Value<'a>)>,
 ) -> Result<Vec<(&'a str, Value<'a>)>, AllocError>
-    ensures { IfOk result (λ ms. members_view ms.items ≡ without (codes "entities") (members_view members.items)) }
+    ensures { IfOk result (λ ms. members_view ms.items ≡ without (codes "entities") (members_view members.entry.items)) }
 {
     let mut rest: Vec<(&'a str, Value<'a>)> = Vec::new(alloc);
     'members: for member in members {

@@ -209,9 +209,9 @@ fn said_beside(
 ) -> Result<Request, Refusal>
     requires { IsWritable (value_view value) }
     ensures said { IfOk result (IsSaidBeside (extensions_view extensions.now) (calls_of extensions.now)
-        (value_view value)) }
+        (value_view value.entry)) }
     ensures refused { IfErr result (IsToldAs (IsUnsaidBeside (extensions_view extensions.now)
-        (calls_of extensions.now) (value_view value))) }
+        (calls_of extensions.now) (value_view value.entry))) }
 {
     match rest_text(alloc, value) {
         Ok(text) => {
