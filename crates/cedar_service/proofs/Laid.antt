@@ -55,7 +55,7 @@ not_both : (o : Option StoredEntity) → is_some o ≡ true → o ≡ None → �
 not_both None h k = absurd (cc)
 not_both (Some d) h k = absurd (cc)
 
-found_if : Bool → Attributes → Option Attributes
+abbrev found_if : Bool → Attributes → Option Attributes
 found_if b m = if b then Some m else None
 
 if_found : (b : Bool) (m : Attributes) → is_some (found_if b m) ≡ true → b ≡ true

@@ -1,5 +1,6 @@
 -- What is brought beside what is stored, from the text on.
-use Rattle.std.proofs.Common.{◌≡◌, refl, sym, subst, Bool, true, false, ◌==◌, length, List, [], ◌∷◌, Option, Some, None, codes}
+use Rattle.std.proofs.Common.{◌≡◌, refl, sym, subst, Bool, true, false, ◌==◌, length, arith, List, [], ◌∷◌, Option, Some, None, codes}
+use Rattle.std.proofs.lemmas.Bool.Decides.{nat_tests}
 use Rattle.std.specs.Prelude.{IsSomeAnd}
 use Rattle.json.specs.Find.{get}
 use Rattle.json.specs.Json.{Json, document}
@@ -29,6 +30,9 @@ use Rattle.cedar_service.specs.Levels.{levels}
 pub some_and : {A : Type 0} (P : A → Type 0) (o : Option A) (a : A) → o ≡ Some a → P a → IsSomeAnd o P
 some_and P o a is h = subst (λ x. IsSomeAnd x P) (sym is) h
 
+pub of_some : (P : Json → Type 0) (o : Option Json) (i : Json) → o ≡ Some i → IsSomeAnd o (λ k. HasUniqueKeys k × P k) → P i
+of_some P o i same h = (subst (λ x. IsSomeAnd x (λ k. HasUniqueKeys k × P k)) same h).1
+
 module _ (X : world.Extensions) (calls : StoredCalls) (s : Entities) where
   pub brought_of_document : (text : Text) (j : Json) (made : Entities) → IsReadAs text j
       → IsBroughtOver X calls s (get (codes "entities") j) made → IsBroughtBy X calls s text made
@@ -46,10 +50,7 @@ module _ (X : world.Extensions) (calls : StoredCalls) (s : Entities) where
   -- what a text says of entities, its JSON says
   pub brought_as_json : (text : Text) (j : Json) (made : Entities) → IsTextFor j text → IsBroughtAs X calls s text made
       → IsBroughtOver X calls s (Some j) made
-  brought_as_json text j made is (es, said, over) = (es, of_some (document text) j is said, over) where
-    of_some : {P : Json → Type 0} (o : Option Json) (i : Json) → o ≡ Some i
-        → IsSomeAnd o (λ k. HasUniqueKeys k × P k) → P i
-    of_some o i same h = (subst (λ x. IsSomeAnd x (λ k. HasUniqueKeys k × _)) same h).1
+  brought_as_json text j made is (es, said, over) = (es, of_some (λ k. AreEntitiesOf X calls levels (entities_said k) es) (document text) j is said, over)
 
   pub unread_entities : (text : Text) (e : JsonError)
       → IsTextError text (λ j e. IsEntitiesError X calls levels (entities_said j) e) e → (r : Refusal)
@@ -68,7 +69,7 @@ has_added s (e ∷ es) made h k = k
 
 pub over_none : (s : Entities) (es : List Entity) → (length es == 0) ≡ true → IsOver s es s
 over_none s [] h = refl
-over_none s (e ∷ es) h = absurd (cc)
+over_none s (e ∷ es) h = absurd (grind (arith, nat_tests))
 
 pub not_over : (s : Entities) (es : List Entity) (e : EntitiesError) → IsRefusedOf (stored_entity s) es e → (r : Refusal)
     → IsToldAs (λ _. IsOfEntities e) r → IsToldAs (IsFaultBelow (codes "$.entities")) r → IsToldAs (IsNotOver s es) r

@@ -1,6 +1,6 @@
 -- Parts of JSON that is written.
 use Rattle.std.proofs.Common.{◌≡◌, refl, sym, ap, subst, ◌∙◌, Bool, true, false, ℕ, List, [], ◌∷◌, ◌++◌, append_assoc, Option, Some, None}
-use Rattle.std.proofs.Common.{bytes_eq, codes, is_some}
+use Rattle.std.proofs.Common.{bytes_eq, codes, is_some, arith, ◌+◌}
 use Rattle.std.specs.Prelude.{◌≤◌, ⊤, max, if◌then◌else◌, cond}
 use Rattle.std.specs.Borrow.{Bor}
 use Rattle.json.specs.Json.{Json, null, boolean, number, string, array, object, Members, no_members, member}
@@ -79,7 +79,7 @@ writable_member k (object ms) part h is = record {
 
 -- ---- members one by one
 
-pub kept : {A : Type 0} → Text → List (Bor (List ℕ) × Value A) → List (Bor (List ℕ) × Value A)
+abbrev pub kept : {A : Type 0} → Text → List (Bor (List ℕ) × Value A) → List (Bor (List ℕ) × Value A)
 kept k [] = []
 kept k (m ∷ ms) = if bytes_eq m.0.now k then kept k ms else (m ∷ kept k ms)
 

@@ -129,7 +129,7 @@ fn over_entities(
         (laid_or (base_entities base.now) o)) }
     ensures refused { IfErr result (IsToldAs (IsNotOver (base_entities base.now) entities.items)) }
 {
-    if entities.is_empty() {
+    if entities.as_slice().is_empty() {
         drop(entities);
         Ok(None)
     } else {
@@ -219,7 +219,7 @@ fn place_among(stated: &[StatedEntity], uid: &EntityUID) -> Option<usize> {
         if entity.uid == *uid {
             return Some(index);
         }
-        index += 1;
+        index = index.saturating_add(1);
     }
     None
 }

@@ -10,7 +10,7 @@ use Rattle.cedar_service.proofs.Over.{brought_of_document, unbrought_of_document
 use Rattle.cedar_service.proofs.brought.brought_by.Goals as goal
 
 pub brought_over-requires : goal.brought_over-requires
-brought_over-requires c = c.in-Ok.ensures.read.writable
+brought_over-requires g c = c.in-Ok.ensures.read.writable
 
 pub returns-in-Ok-clause-brought : goal.returns-in-Ok-clause-brought
 returns-in-Ok-clause-brought g c =
@@ -34,8 +34,8 @@ returns-in-Ok-clause-refused g c =
     (because Un By (λ u h. unbrought_of_document (extensions_view x) (calls_of x) s t j u c.in-Ok.ensures.read h)) c.brought_over.result
     c.brought_over.ensures.refused
 
-pub returns-in-Err-clause-refused : goal.returns-in-Err-clause-refused
-returns-in-Err-clause-refused g c =
+pub returns-clause-refused : goal.returns-clause-refused
+returns-clause-refused g c =
     let x = c.args.extensions.now in
     unread_document (extensions_view x) (calls_of x) (base_entities c.args.base.now) c.args.text.now c.in-Err.error c.in-Err.ensures.unread
     c.refuse_json-refusal.result c.refuse_json-refusal.ensures.json c.refuse_json-refusal.ensures.fault

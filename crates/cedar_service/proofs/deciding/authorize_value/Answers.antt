@@ -11,7 +11,7 @@ use Rattle.cedar_service.proofs.Responding.{refused_as}
 use Rattle.cedar_service.proofs.deciding.authorize_value.Goals as goal
 
 pub brought_over-requires : goal.brought_over-requires
-brought_over-requires c = c.requires.writable
+brought_over-requires g c = c.requires.read.writable
 
 pub returns-in-Ok : goal.returns-in-Ok
 returns-in-Ok g c =
@@ -21,7 +21,7 @@ returns-in-Ok g c =
     let s = laid_or (entities_of e) c.in-Ok.brought in
     of_ok (IsAuthorizedOver (extensions_view x) (calls_of x) e s t) (IsAuthorizedWith (extensions_view x) (calls_of x) e t)
     (λ o h. brought s (brought_of_document (extensions_view x) (calls_of x) (entities_of e) t (value_view c.args.value) s
-    c.requires c.in-Ok.ensures.brought) h) c.authorize_over.result c.authorize_over.ensures
+    c.requires.read c.in-Ok.ensures.brought) h) c.authorize_over.result c.authorize_over.ensures
 
 pub returns-in-Err : goal.returns-in-Err
 returns-in-Err g c =
@@ -34,5 +34,5 @@ returns-in-Err g c =
     (λ o h. not_brought (refused_as (IsUnbroughtBy (extensions_view x) (calls_of x) (entities_of e) t) r o
     (because (IsUnbrought (extensions_view x) (calls_of x) (entities_of e) (get (codes "entities") j))
     (IsUnbroughtBy (extensions_view x) (calls_of x) (entities_of e) t)
-    (λ u k. unbrought_of_document (extensions_view x) (calls_of x) (entities_of e) t j u c.requires k) r
+    (λ u k. unbrought_of_document (extensions_view x) (calls_of x) (entities_of e) t j u c.requires.read k) r
     c.in-Err.ensures.refused) h)) c.refused.result c.refused.ensures

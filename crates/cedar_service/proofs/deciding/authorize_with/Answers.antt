@@ -7,8 +7,8 @@ use Rattle.cedar_service.proofs.Over.{unread_document}
 use Rattle.cedar_service.proofs.Responding.{refused_as}
 use Rattle.cedar_service.proofs.deciding.authorize_with.Goals as goal
 
-pub returns-in-Err : goal.returns-in-Err
-returns-in-Err g c =
+pub returns : goal.returns
+returns g c =
     let x = c.args.extensions.now in
     let e = c.args.engine.now in
     let t = c.args.text.now in
