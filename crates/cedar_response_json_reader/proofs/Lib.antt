@@ -1,0 +1,4 @@
+pub mod Refused
+pub mod Sheets
+pub mod Lists
+pub mod TextLemmas
