@@ -1,1 +1,3 @@
-pub mod Reading
+pub mod Errors
+pub mod Policies
+pub mod Traveling

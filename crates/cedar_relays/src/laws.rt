@@ -1,12 +1,14 @@
-//! What is read says what was written. The function is a law, and does nothing.
-ghost use Rattle.cedar_staged.specs.Wires.{SaysTheSame};
-ghost use Rattle.cedar_relays.specs.Lines.{IsReadOf};
+//! What is read is what was written. The function is a law, and does nothing.
+ghost use Rattle.cedar_relays.specs.Travels.{WhatIsReadComesBack};
 
 use cedar_authorizer::authorizer::PartialResponse;
 
-/// Where the JSON tells of a response its mode, its entities and its rows, and its context is evaluated to what it was,
-/// what is read of the JSON says the same: so a step from it goes on where the response that was written stood
+/// Where the parts of a response read back (`CanTravel`), each of its expressions and annotations as itself, a residual
+/// with an unknown, and no two policies under one id, what is read of the JSON that was written of it says the same: how
+/// errors are handled, the request and what is reported of each policy; each error comes back, in order, as its kind and
+/// what it says; and a recorded recursion limit is recorded again. That the context is evaluated to what it was is a
+/// premise. So a step from what was read goes on where the response that was written stood
 /// (`steps_from_the_same_go_on`, `relayed_steps_have_the_headline` of `cedar_staged`).
-pub fn what_is_read_says_the_same(response: &PartialResponse, read: &PartialResponse)
-    ensures { IsReadOf response.now read.now → SaysTheSame response.now read.now }
+pub fn what_is_read_comes_back(response: &PartialResponse, read: &PartialResponse)
+    ensures { WhatIsReadComesBack response.now read.now }
 {}
