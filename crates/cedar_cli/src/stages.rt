@@ -132,7 +132,7 @@ pub fn stages_from<'t>(
         (partial_configuration (extensions_view extensions.now) (calls_of extensions.now) way) first
         store.now.entities steps.now)) }
 {
-    if steps.len() > STEPS {
+    if STEPS < steps.len() {
         drop(first);
         return Err(too_many_steps(alloc, steps.len()));
     }

@@ -1,5 +1,5 @@
 -- Annotations read back.
-use Rattle.std.proofs.Common.{◌≡◌, ℕ, suc, Bool, true, eqb-refl, List, [], ◌∷◌, map, length, Ok, refl, ap, ◌∙◌}
+use Rattle.std.proofs.Common.{◌≡◌, ℕ, suc, Bool, true, eq-eqb, List, [], ◌∷◌, map, length, Ok, refl, ap, ◌∙◌}
 use Rattle.std.specs.Prelude.{if◌then◌else◌, ◌==◌}
 use Rattle.json.specs.Strict.{keys}
 use Rattle.cedar_model.specs.Terms.{Text}
@@ -27,4 +27,4 @@ annotations_back ps words ordered =
     ap (λ (s : Said (List (Text × Text))). and_then (distinct (length (keys (members_of (map annotation_member ps))))) s) (all_back [] ps words)
     ∙ ap (λ (qs : List (Text × Text)). distinct (length (keys (members_of (map annotation_member ps)))) qs) ordered
     ∙ ap (λ (n : ℕ). if length ps == n then Ok ps else refused reasons.RepeatedKey) (counted ps)
-    ∙ ap (λ (b : Bool). if b then Ok ps else refused reasons.RepeatedKey) (eqb-refl (length ps))
+    ∙ ap (λ (b : Bool). if b then Ok ps else refused reasons.RepeatedKey) (eq-eqb (length ps) (length ps) refl)

@@ -1,5 +1,5 @@
 -- Expressions read back, level by level.
-use Rattle.std.proofs.Common.{◌≡◌, ℕ, zero, suc, ◌+◌, Bool, true, false, eqb-refl, List, [], ◌∷◌, map, Option, Some, None, Result, Ok, Err, refl, sym, ap, ◌∙◌, subst, codes}
+use Rattle.std.proofs.Common.{◌≡◌, ℕ, zero, suc, ◌+◌, Bool, true, false, eq-eqb, List, [], ◌∷◌, map, Option, Some, None, Result, Ok, Err, refl, sym, ap, ◌∙◌, subst, codes}
 use Rattle.std.specs.Prelude.{if◌then◌else◌, ◌==◌, bytes_eq}
 use Rattle.json.specs.Json.{Json, string, array, object, Items, no_items, item, Members, no_members, member}
 use Rattle.json.specs.Find.{as_array}
@@ -16,7 +16,7 @@ use Rattle.cedar_functions.specs.declared.functions.Known.TheVariants as known
 use Rattle.cedar_json_writer.specs.Written.{sole_member, two_members}
 use Rattle.cedar_policy_json_reader.specs.declared.errors.RefusalReason.TheVariants as reasons
 use Rattle.cedar_policy_json_reader.specs.Expressions.{Reading, Around, level_said, expression_said, undoubled_said, by_two_part, by_unary, leaf_or_said, compound_said, collection_said, operator_said, items_said, members_said, item_count, call_said, called, called_on, called_by_name, call_by_known, set_said, record_said, unique_said, record_of_pairs, keys_of_pairs, pattern_of_said}
-use Rattle.cedar_policy_json_reader.specs.Leaves.{literal_said, variable_said, unknown_said, name_said, entity_of, long_said, kind_said, typed, Attributes, first_and_rest, has_term}
+use Rattle.cedar_policy_json_reader.specs.Leaves.{literal_said, variable_said, unknown_said, name_said, entity_of, long_said, kind_said, typed, one_attribute, first_and_rest, has_term}
 use Rattle.cedar_policy_json_reader.specs.Names.{TwoPart, plain, conjunction, disjunction, two_part_term, two_part_named, unary_named}
 use Rattle.cedar_policy_json_reader.specs.Paths.{at_key, at_index}
 use Rattle.cedar_policy_json_reader.specs.Refusals.{Said, refused, refused_there, under, before, both_said, made_of, and_then}
@@ -159,7 +159,7 @@ module _ (c : Around) (says : Reading) (P : Term → Type 0) (part : (t : Term) 
       ap (λ (b : Bool). if b then called_on says f (Some (items_json no_slots ts)) else refused reasons.UnknownOperator) may ∙ given_back f ts h
   called_back (known.Function s m) f ts may h =
       ap (λ (n : ℕ). if n == m then made_of (λ us. call f (terms_of us)) (items_said says 0 (items_json no_slots ts)) else refused reasons.WrongArguments) (counted ts ∙ may)
-      ∙ ap (λ (b : Bool). if b then made_of (λ us. call f (terms_of us)) (items_said says 0 (items_json no_slots ts)) else refused reasons.WrongArguments) (eqb-refl m)
+      ∙ ap (λ (b : Bool). if b then made_of (λ us. call f (terms_of us)) (items_said says 0 (items_json no_slots ts)) else refused reasons.WrongArguments) (eq-eqb m m refl)
       ∙ given_back f ts h
   called_back known.Nothing f ts may h = absurd may
 
@@ -185,7 +185,7 @@ module _ (c : Around) (says : Reading) (P : Term → Type 0) (part : (t : Term) 
   level_back (get_attribute t k) h =
       λ i. under (at_key (codes ".")) (made_of (λ q. get_attribute q.1 q.0) (both_said (Ok k) (under (at_key (codes "left")) (part t h i))))
   level_back (has_attribute t k) h =
-      λ i. under (at_key (codes "has")) (made_of (λ q. has_term q.0 q.1) (both_said (Ok (Attributes.one_attribute k)) (under (at_key (codes "left")) (part t h i))))
+      λ i. under (at_key (codes "has")) (made_of (λ q. has_term q.0 q.1) (both_said (Ok (one_attribute k)) (under (at_key (codes "left")) (part t h i))))
   level_back (extended_has t k ks) h =
       λ i. under (at_key (codes "has")) (made_of (λ q. has_term q.0 q.1) (both_said (under (at_key (codes "attr")) (and_then first_and_rest (texts_back 0 (k ∷ ks) i))) (under (at_key (codes "left")) (part t h i))))
   level_back (like t p) h =

@@ -3,12 +3,12 @@
 //! Whoever can write the line can change the decision: a forbid that is left out of it is missed by nobody. So a service
 //! signs its lines, and reads only what is signed.
 //!
-//! - `lines`: the calls. `laws`: what was read says the same as what was written.
+//! - `lines`: the calls. `laws`: what was read is what was written.
 //!
 //! The promise: what is written is the whole response (`written`); what is read is what the line says, or the refusal that
-//! is due first (`read`, `refused`). Where the line tells of a response, what is read of it says the same (the law
-//! `what_is_read_says_the_same`; `specs/Lines.antt`), so that `relayed_steps_have_the_headline` of `cedar_staged` has the
-//! headline of the steps on all machines. The history is not in the line: not the steps before, nor places.
+//! is due first (`read`, `refused`). What was written of a response whose parts read back is read as what says the same
+//! (the law `what_is_read_comes_back`; `specs/Travels.antt`), so that `relayed_steps_have_the_headline` of `cedar_staged`
+//! has the headline of the steps on all machines. The history is not in the line: not the steps before, nor places.
 #![tactic(auto)]
 
 pub mod laws;
