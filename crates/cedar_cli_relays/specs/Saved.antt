@@ -1,11 +1,13 @@
 -- What is answered in stages of which each may be on another machine: what is printed, and the line that is handed on.
-use Rattle.std.specs.Prelude.{◌≡◌, ◌++◌, List, [], codes, string_bytes}
+use Rattle.std.specs.Prelude.{◌≡◌, ◌++◌, Bool, List, [], codes, string_bytes}
 use Rattle.json.specs.Print.{print}
 use Rattle.json.specs.Tree.{json_tokens}
 use Rattle.json.specs.Json.{Json}
 use Rattle.cedar_model.specs.Terms.{Text}
 use Rattle.cedar_model.specs.World as world
 use Rattle.cedar_model.specs.Rules.{StoredCalls}
+use Rattle.cedar_model.specs.Settings.{shallow}
+use Rattle.cedar_model.specs.Configurations.{Configuration, configured}
 use Rattle.cedar_functions.specs.Functions.{Knowledge}
 use Rattle.cedar_layers.specs.declared.policies.entities.Entities.{Entities}
 use Rattle.cedar_layers.specs.declared.policies.policy_set.PolicySet.{PolicySet}
@@ -25,7 +27,7 @@ use Rattle.cedar_cli.specs.declared.asked.Step.{Step}
 use Rattle.cedar_cli.specs.declared.asked.Way.{Way}
 use Rattle.cedar_cli.specs.declared.steps.Taken.{Taken}
 use Rattle.cedar_cli.specs.Questions.{levels, IsGivenStore}
-use Rattle.cedar_cli.specs.Stages.{last_in, partial_configuration, AreStages, AreTakenFrom, ArePrintedAs}
+use Rattle.cedar_cli.specs.Stages.{last_in, levels_in, partial_configuration, AreStages, AreTakenFrom, ArePrintedAs}
 use Rattle.cedar_cli_relays.specs.declared.relays.Saved.{Saved}
 
 -- the line of a response, with extensions of these names
@@ -34,14 +36,14 @@ IsLineOf names r t =
     (j : Json) × IsWritten (mode_of r) names (request_view (request_of r)) (rows_view r) (errors_of r) j
     × (t ≡ print (json_tokens j) ++ codes "\n")
 
--- in the way that a response was made: errors are handled as it handles them
-abbrev pub as_in : PartialResponse → Way → Way
-as_in r w = record w { error_handling = r.error_handling }
+-- how what is taken further from a response is decided: as errors are handled there, with the levels of this way
+abbrev pub configuration_as : world.Extensions → StoredCalls → PartialResponse → Way → Configuration
+configuration_as X calls r w = configured calls (mode_of r) shallow X (levels_in w.limit)
 
 -- the stages are printed, and the line is that of the last response
-pub record ArePrintedAndSaved (names : List Text) (text : Text) (ps : PolicySet) (w : Way) (first : PartialResponse)
-    (later : List Taken) (s : Saved) : Type 0 where
-  pub printed : ArePrintedAs w.is_json text (policies_view ps) first later s.printed
+pub record ArePrintedAndSaved (names : List Text) (text : Text) (ps : PolicySet) (is_json : Bool)
+    (first : PartialResponse) (later : List Taken) (s : Saved) : Type 0 where
+  pub printed : ArePrintedAs is_json text (policies_view ps) first later s.printed
   pub line : IsLineOf names (last_in first later) (string_bytes s.line)
 
 -- with these extensions, of these names, whose functions may answer this
@@ -54,7 +56,7 @@ module _ (X : world.Extensions) (calls : StoredCalls) (names : List Text) where
     pub first : PartialResponse
     pub later : List Taken
     pub stages : AreStages (partial_configuration X calls w) (considered ps) store q steps first later
-    pub saved : ArePrintedAndSaved names text ps w first later s
+    pub saved : ArePrintedAndSaved names text ps w.is_json first later s
 
   -- of these policies: there is the closed store that is given
   pub record IsSavedBy (text : Text) (ps : PolicySet) (q : Asked) (steps : List Step) (w : Way) (s : Saved)
@@ -80,10 +82,10 @@ module _ (X : world.Extensions) (calls : StoredCalls) (names : List Text) where
   pub record IsTakenOn (text : Text) (first : PartialResponse) (store : Entities) (steps : List Step) (w : Way)
       (s : Saved) : Type 0 where
     pub later : List Taken
-    pub taken : AreTakenFrom (partial_configuration X calls (as_in first w)) first store steps later
+    pub taken : AreTakenFrom (configuration_as X calls first w) first store steps later
     pub no_policies : PolicySet
     pub none_are : policies_view no_policies ≡ []
-    pub saved : ArePrintedAndSaved names text no_policies (as_in first w) first later s
+    pub saved : ArePrintedAndSaved names text no_policies w.is_json first later s
 
   -- over the closed store that is given
   pub record IsTakenOnOver (text : Text) (first : PartialResponse) (q : Asked) (steps : List Step) (w : Way)

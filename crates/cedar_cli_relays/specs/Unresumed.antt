@@ -15,9 +15,8 @@ use Rattle.cedar_cli.specs.declared.asked.Step.{Step}
 use Rattle.cedar_cli.specs.declared.asked.Way.{Way}
 use Rattle.cedar_cli.specs.Questions.{levels, IsGivenStore}
 use Rattle.cedar_cli.specs.Reasons.{IsStoreUnread}
-use Rattle.cedar_cli.specs.Stages.{partial_configuration}
 use Rattle.cedar_cli.specs.Stopped.{AreNotTakenFrom}
-use Rattle.cedar_cli_relays.specs.Saved.{as_in, SaysResponse}
+use Rattle.cedar_cli_relays.specs.Saved.{configuration_as, SaysResponse}
 
 -- the error is not out of memory
 abbrev pub IsOfLine : ResponseJsonError → Type 0
@@ -38,7 +37,7 @@ module _ (X : world.Extensions) (calls : StoredCalls) (names : List Text) where
   pub data IsNotTakenOn (first : PartialResponse) (q : Asked) (steps : List Step) (w : Way) : Type 0 where
     for_store_of_steps : IsStoreUnread X calls q.entities q.max_ancestors → IsNotTakenOn first q steps w
     for_steps : (store : Entities) → IsGivenStore X calls q store
-        → AreNotTakenFrom (partial_configuration X calls (as_in first w)) first store steps
+        → AreNotTakenFrom (configuration_as X calls first w) first store steps
         → IsNotTakenOn first q steps w
 
   -- the line can't be read, or the response that it says is not taken further

@@ -4,11 +4,10 @@ ghost use Rattle.cedar_extensions.specs.Extensions.{extensions_view, calls_of};
 ghost use Rattle.cedar_functions.specs.Functions.{these, signatures_of};
 ghost use Rattle.cedar_layers.specs.PolicySets.{policies_view};
 ghost use Rattle.cedar_cli.specs.Reasons.{IsToldFor};
-ghost use Rattle.cedar_cli.specs.Stages.{partial_configuration};
 ghost use Rattle.cedar_cli.specs.Stopped.{AreNotTakenFrom, IsPartlyUnanswered, IsPartlyUnansweredBy};
 ghost use Rattle.cedar_cli.specs.Stopped.{IsPartlyUnansweredOver};
 ghost use Rattle.cedar_response_json.specs.Extensions.{names_of};
-ghost use Rattle.cedar_cli_relays.specs.Saved.{as_in, ArePrintedAndSaved, IsSaved, IsSavedBy, IsSavedOver};
+ghost use Rattle.cedar_cli_relays.specs.Saved.{configuration_as, ArePrintedAndSaved, IsSaved, IsSavedBy, IsSavedOver};
 ghost use Rattle.cedar_cli_relays.specs.Saved.{IsResumed, IsTakenOn, IsTakenOnOver};
 ghost use Rattle.cedar_cli_relays.specs.Unresumed.{IsNotResumed, IsNotTakenOn};
 
@@ -146,7 +145,7 @@ fn print_and_save(
     extensions: &Extensions<'_>,
     warnings: String,
 ) -> Result<Saved, AllocError>
-    ensures { IfOk result (ArePrintedAndSaved (names_of extensions.now) source.entry.text.now policies.now way
+    ensures { IfOk result (ArePrintedAndSaved (names_of extensions.now) source.entry.text.now policies.now way.is_json
         stages.now.first stages.now.later.items) }
 {
     let printed = print_stages_of(alloc, source, policies, way, stages, warnings)?;
@@ -230,11 +229,11 @@ fn resume_over(
     ensures answered { IfOk result (IsTakenOn (extensions_view extensions.now) (calls_of extensions.now)
         (names_of extensions.now) line.entry.text.now response store.now.entities steps.now way) }
     ensures refused { IfErr result (IsToldFor (AreNotTakenFrom
-        (partial_configuration (extensions_view extensions.now) (calls_of extensions.now) (as_in response way))
+        (configuration_as (extensions_view extensions.now) (calls_of extensions.now) response way)
         response store.now.entities steps.now)) }
 {
     let way = Way {
-        error_handling: response.error_handling,
+        error_handling: response.error_handling(),
         ..way
     };
     let stages = stages_from(
@@ -261,7 +260,7 @@ fn print_without_policies(
     warnings: String,
 ) -> Result<Saved, Refusal>
     ensures saved { IfOk result (λ s. (ps : _) × (policies_view ps ≡ []) × ArePrintedAndSaved
-        (names_of extensions.now) line.entry.text.now ps way stages.now.first stages.now.later.items s) }
+        (names_of extensions.now) line.entry.text.now ps way.is_json stages.now.first stages.now.later.items s) }
     ensures memory { IfErr result (IsToldFor ⊥) }
 {
     match PolicySet::try_from_iter(alloc, Vec::new(alloc)) {

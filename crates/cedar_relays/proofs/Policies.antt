@@ -141,5 +141,5 @@ module _ (fs : Knowledge) (n : ℕ) where
 
   pub all_back : ReadsBack fs n (literal (bool_literal false)) → (rs : List Row) → RowsReadBack fs n rs → first_repeated (map (λ x. x.id) rs) ≡ None → rows_said fs n (rows_json rs) ≡ Ok rs
   all_back no rs h apart =
-      ap (λ (s : Said (List Row)). and_then (all_once fs n) s) (rows_back no 0 rs h)
-      ∙ ap (λ (o : Option Text). once fs n o rs) apart
+      ap (λ (s : Said (List Row)). and_then all_once s) (rows_back no 0 rs h)
+      ∙ ap (λ (o : Option Text). once o rs) apart

@@ -154,7 +154,7 @@ module _ (r read : PartialResponse) where
       let is : p ≡ told_of (mode_of r) request (rows_view r) ts = ok_same (response_said fs n names j) p (told_of (mode_of r) request (rows_view r) ts) said back in
       comes_back x calls n ts told (subst (λ (q : Told). IsRead x calls n q read) is is_read) context_is
 
-  pub what_is_read_comes_back : WhatIsReadComesBack r read
-  what_is_read_comes_back fs n names j x calls can h reads context_is =
+  pub what_is_read_comes_back : (x : world.Extensions) (calls : StoredCalls) → WhatIsReadComesBack x calls r read
+  what_is_read_comes_back x calls fs n names j can h reads context_is =
       let errors = back (errors_of r) 0 h.1.0 h.1.1 in
       of_json fs n names j x calls can h errors.errors errors.told (ap errors_said h.1.2 ∙ errors.read) reads.0 reads.1 reads.2 context_is

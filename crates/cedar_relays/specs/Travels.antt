@@ -90,12 +90,11 @@ pub record ComesBack (r read : PartialResponse) : Type 0 where
   pub errors_are : AreToldOf (errors_of r) (errors_of read)
   pub limit_is_kept : KeepsLimit (errors_of r) (errors_of read)
 
--- where the JSON is that of a response that can travel, what is read of it comes back, if its context is evaluated to
--- what it was
-abbrev pub WhatIsReadComesBack : PartialResponse → PartialResponse → Type 0
-WhatIsReadComesBack r read =
-    (fs : Knowledge) (n : ℕ) (names : List Text) (j : Json) (x : world.Extensions) (calls : StoredCalls)
-    → CanTravel fs n r
+-- where the JSON is that of a response that can travel, what is read of it, with these extensions, whose functions may
+-- answer this, comes back, if its context is evaluated to what it was
+abbrev pub WhatIsReadComesBack : world.Extensions → StoredCalls → PartialResponse → PartialResponse → Type 0
+WhatIsReadComesBack x calls r read =
+    (fs : Knowledge) (n : ℕ) (names : List Text) (j : Json) → CanTravel fs n r
     → IsWritten (mode_of r) names (request_view (request_of r)) (rows_view r) (errors_of r) j
     → Reads x calls n (response_said fs n names j) read
     → (request_view (request_of read)).context_part ≡ (request_view (request_of r)).context_part

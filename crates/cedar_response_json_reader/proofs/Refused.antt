@@ -3,8 +3,12 @@ use Rattle.std.proofs.Common.{◌≡◌, List, [], ◌∷◌, ◌++◌, Ok, Err,
 use Rattle.cedar_response_json_reader.specs.declared.errors.ResponseJsonError.{ResponseJsonError}
 use Rattle.cedar_response_json_reader.specs.declared.errors.ResponseJsonError.TheVariants as errors
 use Rattle.cedar_response_json_reader.specs.declared.errors.ResponseRefusal.{ResponseRefusal}
+use Rattle.cedar_response_json_reader.specs.declared.errors.ResponseRefusal.TheVariants as reasons
 use Rattle.cedar_policy_json_reader.specs.declared.errors.PolicyJsonError.{PolicyJsonError}
-use Rattle.cedar_policy_json_reader.specs.Paths.{Step}
+use Rattle.cedar_policy_json_reader.specs.declared.errors.PolicyJsonError.TheVariants as policies
+use Rattle.cedar_policy_json_reader.specs.declared.errors.RefusalReason.{RefusalReason}
+use Rattle.cedar_policy_json_reader.specs.declared.paths.JsonPath.{JsonPath}
+use Rattle.cedar_policy_json_reader.specs.Paths.{Step, path_view}
 use Rattle.cedar_policy_json_reader.specs.Refusals as json
 use Rattle.cedar_response_json_reader.specs.Refusals.{Said, under, before, both_said, made_of, and_then, of_policies}
 use Rattle.cedar_response_json_reader.specs.Refusals.{IsRefusal, IsRefusedAt, IsUnder, IsMemory, IsOfPolicies}
@@ -80,8 +84,17 @@ none_done (Ok ts) = refl
 none_done (Err r) = refl
 
 -- of Cedar's JSON of policies
+at_policies : {T : Type 0} (said : json.Said T) (p : JsonPath) (r : RefusalReason) (e : ResponseJsonError) → said ≡ Err (record { path = path_view p; reason = r }) → IsRefusedAt (path_view p) (reasons.InPolicy r) e → IsRefusal (of_policies said) e
+at_policies said p r errors.Syntax h of = of
+at_policies said p r errors.DuplicateKey h of = of
+at_policies said p r (errors.Refused q t) h of = ap of_policies h ∙ (λ i. Err (record { path = sym of.0 i; reason = sym of.1 i }))
+at_policies said p r (errors.Memory m) h of = tt
+
 pub refused_of_policies : {T : Type 0} (said : json.Said T) (d : PolicyJsonError) (e : ResponseJsonError) → json.IsRefusal said d → IsOfPolicies d e → IsRefusal (of_policies said) e
-refused_of_policies said d e h of = of said h
+refused_of_policies said policies.Syntax e h of = absurd h
+refused_of_policies said policies.DuplicateKey e h of = absurd h
+refused_of_policies said (policies.Refused p r) e h of = at_policies said p r e h of
+refused_of_policies said (policies.Memory m) e h of = memory_refused (of_policies said) e of
 
 pub said_of_policies : {T : Type 0} (said : json.Said T) (t : T) → said ≡ Ok t → of_policies said ≡ Ok t
 said_of_policies said t is = ap of_policies is

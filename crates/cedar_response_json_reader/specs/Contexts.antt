@@ -18,7 +18,7 @@ use Rattle.cedar_restricted.specs.Evaluations.{IsBare, IsAnswerWithin}
 use Rattle.cedar_response_json_reader.specs.declared.errors.ResponseJsonError.{ResponseJsonError}
 use Rattle.cedar_response_json_reader.specs.declared.errors.ResponseJsonError.TheVariants as errors
 use Rattle.cedar_response_json_reader.specs.declared.errors.ResponseRefusal.TheVariants as reasons
-use Rattle.cedar_response_json_reader.specs.Refusals.{IsRefusedAt}
+use Rattle.cedar_response_json_reader.specs.Refusals.{IsRefusedAt, IsMemory}
 use Rattle.cedar_response_json_reader.specs.Requests.{unknown_in}
 
 -- whether it is the unknown of a context of which nothing is known
@@ -33,6 +33,13 @@ IsNoMemory (creations.NotARecord e) = ⊤
 IsNoMemory (creations.Evaluation e) = ⊤
 IsNoMemory (creations.ExpressionConstruction e) = ⊤
 IsNoMemory (creations.Memory e) = ⊥
+
+-- there is no context because of this error
+abbrev pub IsNoneFor : ContextCreationError → ResponseJsonError → Type 0
+IsNoneFor (creations.NotARecord e) r = IsRefusedAt (at_key (codes "context") ∷ []) reasons.NotAContext r
+IsNoneFor (creations.Evaluation e) r = IsRefusedAt (at_key (codes "context") ∷ []) reasons.NotAContext r
+IsNoneFor (creations.ExpressionConstruction e) r = IsRefusedAt (at_key (codes "context") ∷ []) reasons.NotAContext r
+IsNoneFor (creations.Memory e) r = IsMemory r
 
 -- with these extensions, whose functions may answer this, within so many levels
 module _ (x : world.Extensions) (calls : StoredCalls) (n : ℕ) where

@@ -1,6 +1,7 @@
 -- What the JSON of a response says, or why a part of it is refused, and where that stands.
 use Rattle.std.specs.Prelude.{◌≡◌, ⊤, List, [], ◌∷◌, ◌++◌, Option, Some, None, Result, Ok, Err}
 use Rattle.cedar_policy_json_reader.specs.declared.errors.PolicyJsonError.{PolicyJsonError}
+use Rattle.cedar_policy_json_reader.specs.declared.errors.PolicyJsonError.TheVariants as policies
 use Rattle.cedar_policy_json_reader.specs.declared.paths.JsonPath.{JsonPath}
 use Rattle.cedar_policy_json_reader.specs.Paths.{Step, path_view}
 use Rattle.cedar_policy_json_reader.specs.Refusals as json
@@ -95,16 +96,19 @@ IsUnder s e errors.DuplicateKey = e ≡ errors.DuplicateKey
 IsUnder s e (errors.Refused path reason) = IsRefusedBelow s e path reason
 IsUnder s e (errors.Memory error) = ⊤
 
--- the error is this one of Cedar's JSON of policies
-abbrev pub IsOfPolicies : PolicyJsonError → ResponseJsonError → Type 0
-IsOfPolicies e r = {T : Type 0} (said : json.Said T) → json.IsRefusal said e → IsRefusal (of_policies said) r
-
 -- memory ran out
 abbrev pub IsMemory : ResponseJsonError → Type 0
 IsMemory errors.Syntax = ⊥
 IsMemory errors.DuplicateKey = ⊥
 IsMemory (errors.Refused path reason) = ⊥
 IsMemory (errors.Memory error) = ⊤
+
+-- the error is this one of Cedar's JSON of policies
+abbrev pub IsOfPolicies : PolicyJsonError → ResponseJsonError → Type 0
+IsOfPolicies policies.Syntax e = e ≡ errors.Syntax
+IsOfPolicies policies.DuplicateKey e = e ≡ errors.DuplicateKey
+IsOfPolicies (policies.Refused path reason) e = IsRefusedAt (path_view path) (reasons.InPolicy reason) e
+IsOfPolicies (policies.Memory error) e = IsMemory e
 
 -- the new list has one more at its end, which is what was said
 abbrev pub IsOneMore : {T : Type 0} → List T → Said T → List T → Type 0

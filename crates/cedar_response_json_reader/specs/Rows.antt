@@ -111,6 +111,15 @@ carried_on p =
 
 -- ---- one row, and all of them
 
+-- the rows, where no id comes twice
+abbrev pub once : Option Text → List Row → Said (List Row)
+once None rows = Ok rows
+once (Some id) rows = refused reasons.RepeatedId
+
+-- no id comes twice
+abbrev pub all_once : List Row → Said (List Row)
+all_once rows = once (first_repeated (map (λ r. r.id) rows)) rows
+
 module _ (fs : Knowledge) (n : ℕ) where
   abbrev pub policy_at : Text → Json → Said PolicyView
   policy_at id j = part_at (codes "policy") (λ p. of_policies (policy_said fs n id p)) j
@@ -131,14 +140,6 @@ module _ (fs : Knowledge) (n : ℕ) where
   abbrev pub rows_from : ℕ → Items → Said (List Row)
   rows_from i no_items = Ok []
   rows_from i (item j js) = before (under (at_index i) (row_said j)) (rows_from (i + 1) js)
-
-  abbrev pub once : Option Text → List Row → Said (List Row)
-  once None rows = Ok rows
-  once (Some id) rows = refused reasons.RepeatedId
-
-  -- no id comes twice
-  abbrev pub all_once : List Row → Said (List Row)
-  all_once rows = once (first_repeated (map (λ r. r.id) rows)) rows
 
   abbrev pub rows_in : Option Items → Said (List Row)
   rows_in None = refused reasons.NotAnArray

@@ -1,9 +1,6 @@
 #![tactic(auto, using(crate::proofs::Refused::refusals))]
 //! The context that an expression is.
-ghost use Rattle.std.specs.Prelude.{◌≡◌, ℕ, [], ◌∷◌, Ok, Err, IfOk, IfErr, option_map, codes};
-ghost use Rattle.cedar_model.specs.Terms.{Term};
-ghost use Rattle.cedar_model.specs.World as world;
-ghost use Rattle.cedar_model.specs.Rules.{StoredCalls};
+ghost use Rattle.std.specs.Prelude.{◌≡◌, [], ◌∷◌, Ok, Err, IfOk, IfErr, option_map, codes};
 ghost use Rattle.cedar_expressions.specs.View.{view};
 ghost use Rattle.cedar_extensions.specs.Extensions.{extensions_view, calls_of};
 ghost use Rattle.cedar_names.specs.Equality.{term_eq};
@@ -12,7 +9,7 @@ ghost use Rattle.cedar_restricted.specs.Views.{restricted_term};
 ghost use Rattle.cedar_requests.specs.Contexts.{context_part_value};
 ghost use Rattle.cedar_requests.specs.Requests.{context_given};
 ghost use Rattle.cedar_response_json_reader.specs.Requests as says;
-ghost use Rattle.cedar_response_json_reader.specs.Contexts.{is_absent, IsContextOf, IsRecordOf, IsWhyNone};
+ghost use Rattle.cedar_response_json_reader.specs.Contexts.{is_absent, IsContextOf, IsRecordOf, IsWhyNone, IsNoneFor};
 ghost use Rattle.cedar_requests.specs.Creations.{IsCreated};
 ghost use Rattle.cedar_policy_json_reader.specs.Paths.{at_key};
 ghost use Rattle.cedar_response_json_reader.specs.Refusals.{IsRefusedAt};
@@ -143,8 +140,7 @@ fn is_written_as(context: &Context, expr: &RestrictedExpr) -> Result<bool, Alloc
 
 #[cold]
 fn refusal(alloc: Global, error: ContextCreationError) -> ResponseJsonError
-    ensures { (x : world.Extensions) (calls : StoredCalls) (n : ℕ) (t : Term) → IsCreated x calls n t (Err error)
-        → IsWhyNone x calls n t result }
+    ensures { IsNoneFor error result }
 {
     match error {
         ContextCreationError::NotARecord(error) => {

@@ -82,17 +82,11 @@ fn are_texts(items: &[Value<'_>], names: &[RcStr]) -> bool
     ensures { result ≡ says.are_texts (items_view items.now) (map rc_str_bytes names.now) }
 {
     match items.split_first() {
-        Some((first, items)) => first_and_others(first, items, names),
+        Some((first, items)) => match names.split_first() {
+            Some((name, names)) => is_text(name, first) && are_texts(items, names),
+            None => false,
+        },
         None => names.is_empty(),
-    }
-}
-
-fn first_and_others(first: &Value<'_>, items: &[Value<'_>], names: &[RcStr]) -> bool
-    ensures { result ≡ says.are_texts (items_view (first.now ∷ items.now)) (map rc_str_bytes names.now) }
-{
-    match names.split_first() {
-        Some((name, names)) => is_text(name, first) && are_texts(items, names),
-        None => false,
     }
 }
 

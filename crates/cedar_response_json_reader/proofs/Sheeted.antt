@@ -3,7 +3,7 @@ use Rattle.std.proofs.Common.{◌≡◌, List, [], ◌∷◌, ◌++◌, map, Non
 use Rattle.std.proofs.lemmas.List.{map-append}
 use Rattle.cedar_model.specs.Terms.{Text}
 use Rattle.cedar_model.specs.Failures.{Failure}
-use Rattle.cedar_model.specs.Responses.{Row}
+use Rattle.cedar_model.specs.Responses.{Row, with_error}
 use Rattle.cedar_model.specs.Refusals.{first_repeated}
 use Rattle.cedar_authorizer.specs.declared.responses.partial_response.PartialResponse.{PartialResponse}
 use Rattle.cedar_authorizer.specs.declared.responses.sheet.Sheet.{Sheet}
@@ -20,6 +20,7 @@ pub none_noted : (s : Sheet) → sheet_view s ≡ nothing_noted → AreNoted [] 
 none_noted s e = ([], refl, e ∙ sym sorted_none)
 
 pub one_noted : (rows : List Row) (row : Row) (old new : Sheet) → AreNoted rows [] old → NotesRow row old new → AreNoted (rows ++ row ∷ []) [] new
+unfolding with_error
 one_noted rows row old new (ls, same, on) (l, is, noted) = (
   ls ++ l ∷ [],
   map-append (λ (x : Located). x.row) ls (l ∷ []) ∙ ap (λ (rs : List Row). rs ++ l.row ∷ []) same ∙ ap (λ (r : Row). rows ++ r ∷ []) is,
