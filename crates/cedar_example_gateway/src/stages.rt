@@ -54,11 +54,7 @@ pub fn region<R: AllocGlobal + Print>(
     let alloc = rt.alloc();
     let before = read(alloc, stage, line)?;
     let values = which_chart(alloc, asked)?;
-    let authorizer = Authorizer::new(stage.extensions, LEVELS);
-    let mut resumed = Resumed::resume(alloc, &authorizer, before)?;
-    resumed.step(alloc, &values, stage.store)?;
-    print_known(rt, "region", resumed.response())?;
-    let line = resumed_to_json(alloc, &resumed, stage.extensions)?.to_text(alloc)?;
+    let (_, line) = taken_further(rt, "region", stage, stage.store, before, &values)?;
     println!(rt; "    {}", line.as_str())?;
     Ok(line)
 }
@@ -73,11 +69,26 @@ pub fn backend<R: AllocGlobal + Print>(
     let alloc = rt.alloc();
     let before = read(alloc, stage, line)?;
     let values = for_the_backend(alloc, &before, asked)?;
+    let (decision, _) = taken_further(rt, "backend", stage, stage.store, before, &values)?;
+    Ok(decision)
+}
+
+// What is decided once the response is taken further by these values over this store, and the line of it.
+fn taken_further<R: AllocGlobal + Print>(
+    rt: &R,
+    name: &str,
+    stage: &Stage<'_>,
+    store: &Entities,
+    before: PartialResponse,
+    values: &HashMap<RcStr, Value>,
+) -> Result<(Option<Decision>, String), Stop> {
+    let alloc = rt.alloc();
     let authorizer = Authorizer::new(stage.extensions, LEVELS);
     let mut resumed = Resumed::resume(alloc, &authorizer, before)?;
-    resumed.step(alloc, &values, stage.store)?;
-    print_known(rt, "backend", resumed.response())?;
-    Ok(resumed.decision())
+    resumed.step(alloc, values, store)?;
+    print_known(rt, name, resumed.response())?;
+    let line = resumed_to_json(alloc, &resumed, stage.extensions)?.to_text(alloc)?;
+    Ok((resumed.decision(), line))
 }
 
 // The response that the line of the stage before says.
