@@ -23,8 +23,9 @@ pub fn answer_texts<R: Read + Drop, W: Write>(
     reader: &mut BufReader<R, Global>,
     writer: &mut W,
 ) -> Result<(), Stopped>
-    ensures answered { OnOk result (AreAnsweredFrom texts.entry.policies.now texts.entry.entities.now texts.entry.request_wins
-        (reader_remaining R.remaining reader.old) (W.contents writer.old) (W.contents writer.new)) }
+    ensures answered { OnOk result (AreAnsweredFrom texts.entry.policies.now texts.entry.entities.now
+        texts.entry.request_wins (reader_remaining R.remaining reader.old) (W.contents writer.old)
+        (W.contents writer.new)) }
     ensures refused { IfUnstarted (IsNotStarted texts.entry.policies.now texts.entry.entities.now) result }
     ensures unread { IfUnstarted (λ e. reader.new ≡ reader.old) result }
     ensures unwritten { IfUnstarted (λ e. writer.new ≡ writer.old) result }
