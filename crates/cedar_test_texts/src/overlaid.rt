@@ -160,11 +160,13 @@ fn put_all(answer: &mut Answer, entities: &Entities) {
 fn put_whole(answer: &mut Answer, entity: &Entity) {
     put_evaluated(answer, entity);
     answer.put(" in [");
-    let mut between = "";
+    let mut is_first = true;
     'ancestors: for ancestor in entity.ancestors() {
-        answer.put(between);
+        if !is_first {
+            answer.put(", ");
+        }
         answer.show(ancestor);
-        between = ", ";
+        is_first = false;
     }
     answer.put("]");
 }
