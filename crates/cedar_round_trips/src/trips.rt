@@ -3,7 +3,9 @@
 use cedar_functions::Functions;
 use cedar_json_writer::JsonValue;
 use cedar_layers::policies::{Policy, PolicyID};
-use cedar_policy_json_reader::{PolicyJsonError, parse_json, policy_from_json, template_from_json};
+use cedar_policy_json_reader::{
+    PolicyJsonError, json_depth, parse_deep_json, policy_from_json, template_from_json,
+};
 use cedar_policy_json_writer::{policy_to_json, template_to_json};
 use cedar_text_lexer::errors::ReadError;
 use cedar_text_parser::{ParseError, parse_policy};
@@ -76,7 +78,7 @@ fn read(
 ) -> Result<Policy, PolicyJsonError> {
     let id: PolicyID = policy.id().clone()?;
     let mut scratch = Scratch::new(alloc);
-    match parse_json(alloc, json, &mut scratch) {
+    match parse_deep_json(alloc, json, &mut scratch, json_depth(limit)) {
         Ok(value) => if is_open {
             template_from_json(alloc, &value, id, &Functions::any(), limit)
         } else {
