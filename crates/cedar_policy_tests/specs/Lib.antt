@@ -1,0 +1,5 @@
+pub mod Texts
+pub mod Said
+pub mod Written
+pub mod Views
+pub mod Failures
