@@ -177,6 +177,7 @@ fn run_tests<'a>(alloc: Global) -> Result<Command<'a>, AllocError> {
         .arg(tests)?
         .arg(policies(alloc))?
         .arg(policy_format(alloc))?
+        .arg(template_linked(alloc))?
         .arg(error_handling(alloc))?
         .arg(limit(alloc))?
         .arg(entities(alloc))?

@@ -122,7 +122,14 @@ fn run_with(
     let asked = read_question(matches, texts);
     match name {
         "diff" => compare(alloc, &asked, matches, texts),
-        "run-tests" => run_tests(alloc, policies, &asked, texts.tests(), way(matches), terminal),
+        "run-tests" => run_tests(
+            alloc,
+            policies,
+            &asked,
+            texts.tests(),
+            way(matches),
+            terminal,
+        ),
         "authorize" => decide(alloc, &asked, matches, texts),
         "partially-authorize" => match texts.columns() {
             Some(columns) => plan_with_unknown(alloc, policies, &asked, columns, matches),

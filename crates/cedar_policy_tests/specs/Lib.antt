@@ -3,3 +3,4 @@ pub mod Said
 pub mod Written
 pub mod Views
 pub mod Failures
+pub mod Faults

@@ -1,6 +1,6 @@
 #![tactic(auto, using(cedar_json_reader::proofs::Views::views))]
 //! Tests of policies.
-ghost use Rattle.std.specs.Prelude.{◌≡◌, option_map};
+ghost use Rattle.std.specs.Prelude.{◌≡◌, not, is_some, option_map};
 ghost use Rattle.std.specs.Option.{option_and_then};
 ghost use Rattle.json.specs.Find.{as_number, as_object, as_str, get};
 ghost use Rattle.json.specs.Value.{value_view, items_view, members_view};
@@ -93,12 +93,21 @@ fn has_test_keys(value: &Value<'_>) -> bool
     ensures { result ≡ specs.has_test_keys (as_object (value_view value.now)) }
 {
     match value {
-        Value::Object(members) => first_other(members).is_none(),
+        Value::Object(members) => has_no_other(members),
         Value::Null => false,
         Value::Bool(_) => false,
         Value::Number(_) => false,
         Value::String(_) => false,
         Value::Array(_) => false,
+    }
+}
+
+fn has_no_other(members: &Vec<(&str, Value<'_>)>) -> bool
+    ensures { result ≡ not (is_some (specs.first_other (members_view members.now.items))) }
+{
+    match first_other(members) {
+        Some(_) => false,
+        None => true,
     }
 }
 
