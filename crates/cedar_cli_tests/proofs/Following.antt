@@ -1,7 +1,7 @@
 -- Verdicts, one behind the other.
 use Rattle.std.proofs.Common.{◌≡◌, refl, sym, ap, subst, ◌∙◌, ◌+◌, ◌<◌, ℕ, suc, Bool, true, false, not, List, [], ◌∷◌, ◌++◌, map, drop, length, get_or, append_assoc, append-nil, string_bytes, arith}
 use Rattle.std.proofs.Math.Seq.{drop-cons}
-use Rattle.std.proofs.lemmas.List.Elements.{All-get_or}
+use Rattle.std.proofs.lemmas.List.Elements.{All-get_or, All-nil, All-cons, All-head, All-tail}
 use Rattle.std.specs.Prelude.{All}
 use Rattle.cedar_model.specs.Terms.{Text}
 use Rattle.cedar_policy_tests.specs.declared.reading.PolicyTest.{PolicyTest}
@@ -21,8 +21,10 @@ next_test ts i d within =
     ap (map test_view) (drop-cons ts i d within ∙ ap (λ j. get_or ts i d ∷ drop j ts) more)
 
 all_of : (ts : List PolicyTest) → AreWritable (map test_view ts) → All (λ t. IsWritable (test_view t)) ts
-all_of [] h = h
-all_of (t ∷ ts) h = (h.0, all_of ts h.1)
+all_of [] h = All-nil (λ t. IsWritable (test_view t))
+all_of (t ∷ ts) h =
+    All-cons (λ u. IsWritable (test_view u)) t ts (All-head IsWritable (test_view t) (map test_view ts) h)
+    (all_of ts (All-tail IsWritable (test_view t) (map test_view ts) h))
 
 -- can be written, where all can
 pub writable_at : (ts : List PolicyTest) (i : ℕ) (d : PolicyTest) → i < length ts → AreWritable (map test_view ts)

@@ -1,6 +1,7 @@
 -- Tests that are put one behind the other.
 use Rattle.std.proofs.Common.{◌≡◌, refl, sym, ap, ◌∙◌, subst, List, [], ◌∷◌, ◌++◌, map, length, append_assoc, append-nil, ℤ, Option, Some, None, option_map, IfSome, Bool, true, false, cond, bytes_eq, codes, Result, Ok, Err, IfOk}
 use Rattle.std.proofs.lemmas.List.{length-map}
+use Rattle.std.proofs.lemmas.List.Elements.{All-nil, All-cons}
 use Rattle.json.specs.Find.{get, get_member, later_or, as_object}
 use Rattle.json.specs.Json.{Json, Items, no_items, item, Members, no_members, member, null, boolean, number, string, array, object}
 use Rattle.json.specs.Tree.{HasNumbers, ItemsHaveNumbers, MembersHaveNumbers}
@@ -103,10 +104,10 @@ first_writable : (o : Option SaidTest) (p : Option (List SaidTest)) → IfSome o
     → IfSome (with_first o p) AreWritable
 first_writable None p h i = tt
 first_writable (Some t) None h i = tt
-first_writable (Some t) (Some ts) h i = (h, i)
+first_writable (Some t) (Some ts) h i = All-cons IsWritable t ts h i
 
 items_writable : (js : Items) → ItemsHaveNumbers js → IfSome (item_tests js) AreWritable
-items_writable no_items h = tt
+items_writable no_items h = All-nil IsWritable
 items_writable (item j js) h =
     first_writable (test_in j) (item_tests js) (test_writable j h.0) (items_writable js h.1)
 

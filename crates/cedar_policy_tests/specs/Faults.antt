@@ -1,5 +1,5 @@
 -- Why a value is no array of tests: the first place where it is something else.
-use Rattle.std.specs.Prelude.{ℕ, ◌+◌, ◌++◌, Bool, cond, List, [], ◌∷◌, Option, Some, None, is_some, codes}
+use Rattle.std.specs.Prelude.{ℕ, ◌+◌, ◌++◌, cond, List, [], ◌∷◌, Option, Some, None, is_some, codes}
 use Rattle.json.specs.Json.{Json, Items, no_items, item, Members}
 use Rattle.json.specs.Find.{as_array, as_object, get}
 use Rattle.cedar_model.specs.Terms.{Text}

@@ -1,5 +1,5 @@
 -- Tests as plain data.
-use Rattle.std.specs.Prelude.{List, map, Option, option_map, Vec}
+use Rattle.std.specs.Prelude.{List, map, option_map, Vec}
 use Rattle.std.specs.Borrow.{Bor}
 use Rattle.std.specs.declared.alloc.Global.{Global}
 use Rattle.json.specs.Json.{Json}
@@ -10,7 +10,7 @@ use Rattle.cedar_decisions.specs.Decisions.{decision_view}
 use Rattle.cedar_policy_tests.specs.declared.reading.PolicyTest.{PolicyTest}
 use Rattle.cedar_policy_tests.specs.Said.{SaidTest, text_list}
 
-abbrev pub reason_view : Bor (Vec Value Global) → List Text
+abbrev pub reason_view : Bor (Vec (Value Global) Global) → List Text
 reason_view names = text_list (items_view names.now.items)
 
 abbrev pub text_seen : Bor Text → Text

@@ -102,7 +102,7 @@ fn has_test_keys(value: &Value<'_>) -> bool
     }
 }
 
-fn has_no_other(members: &Vec<(&str, Value<'_>)>) -> bool
+fn has_no_other<'a>(members: &Vec<(&'a str, Value<'a>)>) -> bool
     ensures { result ≡ not (is_some (specs.first_other (members_view members.now.items))) }
 {
     match first_other(members) {
@@ -234,7 +234,6 @@ fn long_in(number: &Value<'_>) -> Option<i64>
 }
 
 // The same, and zero for `-0`.
-#[tactic(auto, using(cedar_json_reader::proofs::Longs::long_parsed))]
 fn signed_long_in(number: &Value<'_>) -> Option<i64>
     ensures { result ≡ option_and_then signed_long_of_text (as_number (value_view number.now)) }
 {
