@@ -24,6 +24,7 @@ pub(crate) fn cedar<'a>(alloc: Global) -> Result<Command<'a>, AllocError> {
         .arg_required_else_help(true)
         .subcommand(authorize(alloc)?)?
         .subcommand(diff(alloc)?)?
+        .subcommand(run_tests(alloc)?)?
         .subcommand(partially_authorize(alloc)?)?
         .subcommand(evaluate(alloc)?)?
         .subcommand(check_parse(alloc)?)?
@@ -159,6 +160,24 @@ fn diff<'a>(alloc: Global) -> Result<Command<'a>, AllocError> {
         .arg(template_linked(alloc))?
         .arg(with.required(true))?
         .arg(requests.required(true))?
+        .arg(error_handling(alloc))?
+        .arg(limit(alloc))?
+        .arg(entities(alloc))?
+        .arg(max_ancestors(alloc))
+}
+
+fn run_tests<'a>(alloc: Global) -> Result<Command<'a>, AllocError> {
+    let tests = Arg::new(alloc, "tests")
+        .required(true)
+        .action(ArgAction::Set)
+        .value_name("FILE")
+        .help("The tests, an array in JSON");
+    Command::new(alloc, "run-tests")
+        .about("Which tests the policies fail, a line of JSON for each (status 1)")
+        .arg(tests)?
+        .arg(policies(alloc))?
+        .arg(policy_format(alloc))?
+        .arg(template_linked(alloc))?
         .arg(error_handling(alloc))?
         .arg(limit(alloc))?
         .arg(entities(alloc))?

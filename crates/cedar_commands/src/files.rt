@@ -14,10 +14,11 @@ const INPUT: &str = "-";
 const INPUT_NAME: &str = "standard input";
 
 // The options that name one file.
-const FILE_OPTIONS: [&str; 8] = [
+const FILE_OPTIONS: [&str; 9] = [
     "policies",
     "template-linked",
     "with",
+    "tests",
     "context",
     "request-json",
     "requests",
@@ -44,6 +45,7 @@ struct StepFiles {
 pub(crate) struct Texts {
     policies: Option<File>,
     with: Option<File>,
+    tests: Option<File>,
     context: Option<File>,
     request: Option<File>,
     requests: Option<File>,
@@ -61,6 +63,7 @@ impl Texts {
     ) -> Result<Texts, Refusal> {
         refuse_second_input(rt.alloc(), matches)?;
         let (policies, with) = all_policies(rt, matches)?;
+        let tests = text_of(rt, matches.get_str("tests"))?;
         let context = text_of(rt, matches.get_str("context"))?;
         let request = text_of(rt, matches.get_str("request-json"))?;
         let requests = text_of(rt, matches.get_str("requests"))?;
@@ -70,6 +73,7 @@ impl Texts {
         Ok(Texts {
             policies,
             with,
+            tests,
             context,
             request,
             requests,
@@ -87,6 +91,11 @@ impl Texts {
     /// The new policies: of no file, if none is named.
     pub(crate) fn new_policies(&self) -> Source<'_> {
         source_or(&self.with, "--with")
+    }
+
+    /// The tests: of no file, if none is named.
+    pub(crate) fn tests(&self) -> Source<'_> {
+        source_or(&self.tests, "FILE")
     }
 
     /// The context, if its file is named.
