@@ -2,7 +2,7 @@
 
     python3 conversations.py write             writes `stdin` and `stdout` of crates/cedar_serve
     python3 conversations.py run PROGRAM       compares what a built program answers to this conversation, to the same in pieces, and
-                                               to each request that ends a connection
+                                               to each request that ends a connection; and what it answers where the request wins
 
 Decisions, reasons and which policies err come from `evaluator.py` over the policies and entities of crates/cedar_serve/data, which
 `cedar_reader.py` and `json_texts.py` read; where an extension is called the reasons stand beside the request. Status, fields, bodies
@@ -206,10 +206,6 @@ WRONG = [
     errs("an id that is a number", "$.subject.id", "not a string", but(GOOD, subject={"type": "User", "id": 1})),
     errs("a type that is no name", "$.resource.type", "not a name", but(GOOD, resource={"type": "a b", "id": "plan"})),
     errs("an action without a name", "$.action.name", "missing", but(GOOD, action={})),
-    errs("a fraction in properties", "$.subject.properties", "properties are not supported",
-         TEXT.replace(b'"id":"ann"', b'"id":"ann","properties":{"age":41.5}')),
-    errs("null in properties", "$.resource.properties", "properties are not supported",
-         but(GOOD, resource={"type": "Document", "id": "plan", "properties": {"status": None}})),
     ("empty properties", request("POST", EVALUATION, but(GOOD, action={"name": "read", "properties": {}})), due(200, GOOD_DUE)),
     errs("a context that is no object", "$.context", "not an object", but(GOOD, context=[])),
     errs("a fraction in the context", "$.context.hour", "not an integer of 64 bits", TEXT[:-1] + b',"context":{"hour":8.5}}'),
@@ -379,8 +375,6 @@ SEARCHES = [
     not_searched("an action where actions are searched for", "action", "$", "an unexpected member", BY_ANN),
     not_searched("no action", "resource", "$.action", "missing", {"subject": ANN, "resource": "Document"}),
     not_searched("no id of the resource", "subject", "$.resource.id", "missing", OF_PLAN | {"resource": "Document"}),
-    not_searched("properties", "subject", "$.subject.properties", "properties are not supported", OF_PLAN,
-                 subject={"type": "User", "properties": {"a": 1}}),
     not_searched("null in the context", "subject", "$.context.a", "null is no value", OF_PLAN, context={"a": None}),
     not_searched("an unknown in the context", "action", "$.context", "an unknown stands in it", WITH_PLAN,
                  context={"a": {"__extn": {"fn": "unknown", "arg": "a"}}}),
@@ -444,6 +438,284 @@ PARTIAL = [
     ("what is left, with GET", request("GET", PARTLY), NO_POST()),
 ]
 
+# ---- what a request brings beside the entities that are stored
+
+class World:
+    """Policies and entities, of which a request may bring more."""
+
+    def __init__(self, policies, entities):
+        self.texts, self.policies, self.entities = (policies, entities), reads(policies.decode()), json.loads(entities)
+        self.version, self.candidates = version_of(policies, entities), candidates_of(self.policies, entities)
+
+    def store(self, given=(), brought=(), wins=False):
+        """The entities, with properties as attributes of entities, and with more entities."""
+        out = [it | {"attrs": dict(it["attrs"])} for it in self.entities] + list(brought)
+        for uid, properties in given:
+            found = [it for it in out if it["uid"] == said(uid)] if properties else [None]
+            if not found:
+                out.append({"uid": said(uid), "attrs": dict(properties), "parents": []})
+            elif found[0] is not None:
+                assert wins or not set(properties) & set(found[0]["attrs"]), (uid, properties)
+                found[0]["attrs"].update(properties)
+        return json_texts.Store(json_texts.document(compact(out).encode()))
+
+    def response(self, principal, action, resource, context, **more):
+        three = [("entity", *it) for it in (principal, ("Action", action), resource)]
+        about = json_texts.context(json_texts.document(compact(context).encode()))
+        allowed, reasons, erring = decided(self.policies, self.store(**more), three + [about])
+        return {"decision": "allow" if allowed else "deny", "reason": [f"policy{n}" for n in reasons],
+                "errors": [{"policyId": f"policy{n}", "message": NO_HOUR} for n in erring]}
+
+    def evaluated(self, body, wins=False):
+        """What is due to an evaluation that is decided, with the properties of its parts."""
+        subject, action, resource = ((body[k]["type"], body[k]["id"]) if k != "action" else body[k]["name"] for k in ("subject", "action", "resource"))
+        given = [(uid, body[k].get("properties", {})) for uid, k in ((subject, "subject"), (("Action", action), "action"), (resource, "resource"))]
+        r = self.response(subject, action, resource, body.get("context", {}), given=given, wins=wins)
+        return {"decision": r["decision"] == "allow", "context": r}
+
+    def evaluates(self, what, body, wins=False):
+        return (what, request("POST", EVALUATION, body), due(200, self.evaluated(body, wins), of=self.version))
+
+    def page(self, part, body, after):
+        """What is found of a search behind so many candidates, and where the next page begins."""
+        type_name = "Action" if part == "action" else body[part]["type"]
+        found, place = [], after
+        while place < len(self.candidates):
+            if len(found) == PAGE_SIZE:
+                return found, f"{self.version}-{place}"
+            it = self.candidates[place]
+            place += 1
+            if it[0] == type_name and self.evaluated(body | {part: {"name": it[1]} if part == "action" else said(it)})["decision"]:
+                found.append(it)
+        return found, ""
+
+    def pages(self, what, part, body):
+        out, token, number = [], None, 1
+        while token != "":
+            found, after = self.page(part, body, int(token.split("-")[1]) if token else 0)
+            results = [{"name": it[1]} if part == "action" else said(it) for it in found]
+            sent = body | ({} if token is None else {"page": {"token": token}})
+            out.append((f"{what}, page {number}", request("POST", SEARCH[part], sent),
+                        due(200, {"results": results, "page": {"next_token": after}}, of=self.version)))
+            token, number = after, number + 1
+        return out
+
+    def authorizes(self, what, body):
+        """Cedar's request, with entities, of which each part is a type and an id."""
+        parts = [(body[k]["type"], body[k]["id"]) for k in ("principal", "action", "resource")]
+        r = self.response(parts[0], parts[1][1], parts[2], body["context"], brought=body.get("entities", ()))
+        return (what, request("POST", AUTHORIZE, body), due(200, r, of=self.version))
+
+
+HERE = World(read("documents.cedar"), read("documents.json"))
+USED = {"__entity": said(ANN)}
+NEW, ZOE = ("Document", "new"), ("User", "zoe")
+
+
+def by(subject, action, resource, of_subject=None, of_action=None, of_resource=None, context=None):
+    """An evaluation with properties."""
+    asked = evaluation(subject, action, resource, context)
+    for part, properties in (("subject", of_subject), ("action", of_action), ("resource", of_resource)):
+        if properties is not None:
+            asked[part]["properties"] = properties
+    return asked
+
+
+def has_already(uid, name):
+    return f"the entity `{uid[0]}::{compact(uid[1])}` has the attribute `{name}` already"
+
+
+PROPERTIES = [
+    HERE.evaluates("a property that permits", by(ANN, "delete", NEW, of_resource={"owner": USED})),
+    HERE.evaluates("without it", by(ANN, "delete", NEW)),
+    HERE.evaluates("a property that forbids", by(ANN, "read", PLAN, of_resource={"sealed": True})),
+    HERE.evaluates("without it, once more", by(ANN, "read", PLAN)),
+    HERE.evaluates("a property of another owner", by(BOB, "delete", NEW, of_resource={"owner": USED})),
+    HERE.evaluates("the owner that is stored stays beside a property", by(ANN, "delete", PLAN, of_resource={"pages": 3, "sealed": False})),
+    HERE.evaluates("the parents that are stored stay beside a property", by(ANN, "read", MENU, of_subject={"age": 41, "tags": ["a", 1, {"b": {}}]})),
+    HERE.evaluates("properties of all three", by(ANN, "read", PLAN, {"age": 41}, {"method": "GET"}, {"pages": 3})),
+    HERE.evaluates("of one of whom nothing is stored", by(EVE, "read", PLAN, {"role": "auditor"})),
+    HERE.evaluates("of an action that is not stored", by(BOB, "copy", NEW, of_action={"a": 1}, of_resource={"owner": {"__entity": said(BOB)}})),
+    HERE.evaluates("empty properties are none", by(EVE, "read", NEW, {}, {}, {})),
+    HERE.evaluates("properties of an auditor, by the context", by(ANN, "read", PLAN, of_resource={"sealed": True}, context={"role": "auditor"})),
+    errs("an attribute that is stored", "$.resource.properties.owner", has_already(PLAN, "owner"), by(BOB, "delete", PLAN, of_resource={"owner": {"__entity": said(BOB)}})),
+    errs("the same value, too", "$.resource.properties.owner", has_already(PLAN, "owner"), by(ANN, "delete", PLAN, of_resource={"owner": USED})),
+    errs("a seal that is stored is not broken", "$.resource.properties.sealed", has_already(VAULT, "sealed"), by(ANN, "read", VAULT, of_resource={"sealed": False})),
+    errs("one entity in two parts, with one name", "$.resource.properties.a", has_already(ANN, "a"), by(ANN, "read", ANN, {"a": 1}, None, {"a": 2})),
+    HERE.evaluates("one entity in two parts, with two names", by(ANN, "read", ANN, {"owner": USED}, None, {"b": 2})),
+    errs("a fraction in properties", "$.subject.properties.age", "not an integer of 64 bits", compact(by(ANN, "read", PLAN, {"age": 41.5})).encode()),
+    errs("a whole number with a point", "$.subject.properties.age", "not an integer of 64 bits", compact(by(ANN, "read", PLAN, {"age": 41.0})).encode()),
+    errs("a number with an exponent", "$.resource.properties.age", "not an integer of 64 bits",
+         compact(by(ANN, "read", PLAN, of_resource={"age": 1})).encode().replace(b'"age":1', b'"age":1e2')),
+    errs("a number past 64 bits", "$.action.properties.n", "not an integer of 64 bits", by(ANN, "read", PLAN, of_action={"n": 2 ** 63})),
+    HERE.evaluates("the least and the greatest number", by(ANN, "read", PLAN, of_action={"n": -2 ** 63, "m": 2 ** 63 - 1})),
+    errs("null in properties", "$.resource.properties.status", "null is no value", by(ANN, "read", PLAN, of_resource={"status": None})),
+    errs("null within", "$.resource.properties.a.b[1]", "null is no value", by(ANN, "read", PLAN, of_resource={"a": {"b": [1, None]}})),
+    errs("an unknown in properties", "$.subject.properties", "an unknown stands in it", by(ANN, "read", PLAN, {"a": {"__extn": {"fn": "unknown", "arg": "a"}}})),
+    errs("properties that are an entity", "$.subject.properties", "not an object", by(ANN, "read", PLAN, {"__entity": said(BOB)})),
+    errs("properties that are a list", "$.subject.properties", "not an object", by(ANN, "read", PLAN, [1])),
+    errs("properties that are null", "$.action.properties", "not an object", GOOD | {"action": {"name": "read", "properties": None}}),
+    errs("a key twice in properties", "$", "a key comes twice in an object",
+         compact(by(ANN, "read", PLAN, {"a": 1})).encode().replace(b'"a":1', b'"a":1,"a":1')),
+    errs("a type that is no name, with properties", "$.subject.type", "not a name", by(("a b", "c"), "read", PLAN, {"a": 1})),
+    HERE.evaluates("after all of these", by(BOB, "delete", PLAN)),
+]
+
+
+# With `--request-attributes-win`, which the conversation is not started with.
+WINNING = [
+    HERE.evaluates("the owner of a request", by(BOB, "delete", PLAN, of_resource={"owner": {"__entity": said(BOB)}}), True),
+    HERE.evaluates("the owner that is stored, then", by(BOB, "delete", PLAN)),
+    HERE.evaluates("a seal that is broken", by(ANN, "read", VAULT, of_resource={"sealed": False, "pages": 3}), True),
+    HERE.evaluates("the parents stay", by(ANN, "read", MENU, of_subject={"age": 1}, of_resource={"sealed": False}), True),
+    HERE.evaluates("of two that are one entity the later", by(ANN, "delete", ANN, {"owner": {"__entity": said(BOB)}}, None, {"owner": USED}), True),
+]
+
+
+def evaluates_all(what, world, all, items, wanted, semantic=None):
+    body = all | {"evaluations": items} | ({} if semantic is None else {"options": {"evaluations_semantic": semantic}})
+    return (what, request("POST", EVALUATIONS, body), due(200, {"evaluations": wanted}, of=world.version))
+
+
+OWNED = said(NEW) | {"properties": {"owner": USED}}
+SEALED = said(NEW) | {"properties": {"owner": USED, "sealed": True}}
+DELETES_ALL = {"subject": said(ANN), "action": {"name": "delete"}, "resource": OWNED}
+
+
+def item_of(world, all, item):
+    return world.evaluated(all | item)
+
+
+MANY = [
+    evaluates_all("the properties of all", HERE, DELETES_ALL, [{}, {"subject": said(BOB)}], [item_of(HERE, DELETES_ALL, it) for it in ({}, {"subject": said(BOB)})]),
+    evaluates_all("properties of its own", HERE, DELETES_ALL, [{"resource": SEALED}, {"resource": said(NEW)}, {}],
+                  [item_of(HERE, DELETES_ALL, it) for it in ({"resource": SEALED}, {"resource": said(NEW)}, {})]),
+    evaluates_all("wrong properties are denied, and the others are decided", HERE, DELETES_ALL,
+                  [{"resource": said(PLAN) | {"properties": {"owner": USED}}}, {"resource": said(NEW) | {"properties": {"n": None}}}, {}],
+                  [denied("$.resource.properties.owner", has_already(PLAN, "owner")), denied("$.resource.properties.n", "null is no value"),
+                   item_of(HERE, DELETES_ALL, {})]),
+    evaluates_all("wrong properties stop them", HERE, DELETES_ALL, [{}, {"subject": said(ANN) | {"properties": 1}}, {}],
+                  [item_of(HERE, DELETES_ALL, {}), denied("$.subject.properties", "not an object")], "deny_on_first_deny"),
+    *HERE.pages("who may delete what has this owner", "subject", {"subject": {"type": "User"}, "action": {"name": "delete"}, "resource": OWNED}),
+    *HERE.pages("who may delete what is sealed, too", "subject", {"subject": {"type": "User"}, "action": {"name": "delete"}, "resource": SEALED}),
+    *HERE.pages("what ann may do with it", "action", {"subject": said(ANN), "resource": OWNED}),
+    *HERE.pages("what one may read of whom a property is known", "resource",
+                {"subject": said(EVE) | {"properties": {"a": 1}}, "action": {"name": "read", "properties": {"b": 2}}, "resource": {"type": "Document"}}),
+    ("properties of what is searched for", request("POST", SEARCH["subject"], {"subject": {"type": "User", "properties": {"a": 1}}, "action": {"name": "read"},
+     "resource": said(PLAN)}), wrong("$.subject.properties", "properties of what is searched for")),
+    ("empty ones are none", request("POST", SEARCH["resource"], {"subject": said(BOB), "action": {"name": "delete"}, "resource": {"type": "Document", "properties": {}}}),
+     due(200, {"results": [said(("Document", "draft"))], "page": {"next_token": ""}})),
+    ("an attribute that is stored, of a search", request("POST", SEARCH["action"], {"subject": said(BOB), "resource": said(PLAN) | {"properties": {"owner": USED}}}),
+     wrong("$.resource.properties.owner", has_already(PLAN, "owner"))),
+    ("null in the properties of a search", request("POST", SEARCH["resource"], {"subject": said(BOB) | {"properties": {"a": [None]}}, "action": {"name": "read"},
+     "resource": {"type": "Document"}}), wrong("$.subject.properties.a[0]", "null is no value")),
+]
+
+EDITORS, STAFF = ("Group", "editors"), ("Group", "staff")
+
+
+def entity(uid, *parents, **attrs):
+    return {"uid": said(uid), "attrs": attrs, "parents": [said(it) for it in parents]}
+
+
+def with_entities(principal, resource, *entities, action="read", context=None):
+    return {"principal": said(principal), "action": {"type": "Action", "id": action}, "resource": said(resource), "context": context or {},
+            "entities": list(entities)}
+
+
+def not_added(what, path, reason, *entities, text=None):
+    body = compact(with_entities(ZOE, PLAN, *entities)).encode() if text is None else text
+    return (what, request("POST", AUTHORIZE, body), wrong(path, reason))
+
+
+def named(uid):
+    return f"the entity `{uid[0]}::{compact(uid[1])}`"
+
+
+LOOP, OTHER = ("Group", "loop"), ("Group", "other")
+BROUGHT = [
+    HERE.authorizes("an entity that is brought", with_entities(ZOE, PLAN, entity(ZOE, EDITORS))),
+    HERE.authorizes("the next has it no more", with_entities(ZOE, PLAN)),
+    HERE.authorizes("no entities are none", with_entities(ANN, PLAN)),
+    HERE.authorizes("its parent is brought, too", with_entities(ZOE, PLAN, entity(ZOE, OTHER), entity(OTHER, EDITORS))),
+    HERE.authorizes("its own document", with_entities(ZOE, NEW, entity(ZOE), entity(NEW, owner={"__entity": said(ZOE)}), action="delete")),
+    HERE.authorizes("a document of another", with_entities(BOB, NEW, entity(NEW, owner={"__entity": said(ZOE)}), action="delete")),
+    HERE.authorizes("what is sealed", with_entities(ZOE, NEW, entity(ZOE, EDITORS), entity(NEW, sealed=True))),
+    HERE.authorizes("one that is recorded as an ancestor", with_entities(ANN, PLAN, entity(STAFF, color="red"))),
+    HERE.authorizes("its members are those that they were", with_entities(ZOE, PLAN, entity(STAFF), entity(ZOE, STAFF))),
+    HERE.authorizes("none that is asked for", with_entities(BOB, PLAN, entity(ZOE, EDITORS))),
+    not_added("a parent that is not there", "$.entities[0]", f"{named(ZOE)} has the parent `Group::\"none\"`, which is neither stored nor brought",
+              entity(ZOE, ("Group", "none"))),
+    not_added("one that is stored", "$.entities[1]", f"{named(ANN)} is stored already", entity(ZOE, EDITORS), entity(ANN)),
+    not_added("one that is stored, with other parents", "$.entities[0]", f"{named(BOB)} is stored already", entity(BOB, EDITORS)),
+    not_added("one that a stored one records, with parents", "$.entities[0]",
+              f"{named(STAFF)} has parents, and the stored entity `Group::\"editors\"` records it as an ancestor", entity(STAFF, EDITORS)),
+    not_added("parents that lead back", "$.entities[1]", f"the parents of the entity `Group::\"loop\"` lead back to it", entity(ZOE, LOOP), entity(LOOP, LOOP)),
+    not_added("one twice", "$.entities[1].uid", "the entity comes again", entity(ZOE), entity(ZOE, EDITORS)),
+    not_added("a fraction in an entity", "$.entities[0].attrs.age", "not an integer of 64 bits", entity(ZOE, age=1.5)),
+    not_added("null in an entity", "$.entities[0].attrs.a", "null is no value", entity(ZOE, a=None)),
+    not_added("an entity without parents", "$.entities[0].parents", "missing", {"uid": said(ZOE), "attrs": {}}),
+    not_added("entities that are none", "$.entities", "not an array", text=compact(with_entities(ZOE, PLAN) | {"entities": {}}).encode()),
+    not_added("entities that are null", "$.entities", "not an array", text=compact(with_entities(ZOE, PLAN) | {"entities": None}).encode()),
+    not_added("entities twice", "$", "a key comes twice in an object", text=compact(with_entities(ZOE, PLAN)).encode()[:-1] + b',"entities":[]}'),
+    ("another member beside entities", request("POST", AUTHORIZE, with_entities(ZOE, PLAN, entity(ZOE)) | {"subject": 1}), wrong("$.subject", "unexpected")),
+    ("entities and no context", request("POST", AUTHORIZE, but(with_entities(ZOE, PLAN, entity(ZOE)), context=None)), wrong("$.context", "missing")),
+    ("an unknown beside entities", request("POST", AUTHORIZE, with_entities(ZOE, PLAN, entity(ZOE), context={"a": {"__extn": {"fn": "unknown", "arg": "a"}}})),
+     wrong("$.context", "an unknown stands in it")),
+    HERE.authorizes("after all of these it is not there", with_entities(ZOE, PLAN)),
+    partly("what is left, with an entity", with_entities(ZOE, PLAN, entity(ZOE, EDITORS)), "allow", ["policy0"], {}, [], ["policy0"]),
+    partly("what is left, without", with_entities(ZOE, PLAN), "deny", [], {}, []),
+    not_partly("what is left, with one that is stored", "$.entities[0]", f"{named(ANN)} is stored already", with_entities(ZOE, PLAN, entity(ANN))),
+    not_partly("what is left, with null in an entity", "$.entities[0].attrs.a", "null is no value", with_entities(ZOE, PLAN, entity(ZOE, a=None))),
+    not_partly("what is left, with entities that are none", "$.entities", "not an array", with_entities(ZOE, PLAN) | {"entities": 1}),
+]
+
+def takes(what, path, text, of):
+    return (what, request("PUT", path, text), due(200, {"version": of}, of=of))
+
+
+# ---- AuthZEN's own bodies, from memory, over policies and entities that make the answers which the specification shows
+
+AUTHZEN = World(read("authzen.cedar"), read("authzen.json"))
+ALICE = {"type": "user", "id": "alice@example.com"}
+ACCOUNT = {"type": "account", "id": "123"}
+SHOWN = {"subject": ALICE, "resource": ACCOUNT, "action": {"name": "can_read", "properties": {"method": "GET"}},
+         "context": {"time": "1985-10-26T01:22-07:00"}}
+BOXCARRING, SUBJECT_SEARCH, RESOURCE_SEARCH = ({"type": "document", "id": f"{it}.md"} for it in ("boxcarring", "subject-search", "resource-search"))
+READS_ALL = {"subject": ALICE, "context": {"time": "2024-05-31T15:22-07:00"}, "action": {"name": "can_read"}}
+THREE = [{"resource": BOXCARRING}, {"resource": SUBJECT_SEARCH}, {"resource": RESOURCE_SEARCH}]
+EDITS = THREE[:2] + [{"action": {"name": "can_edit"}, "resource": RESOURCE_SEARCH}]
+
+
+def shown(what, items, semantic=None, wanted=None):
+    """Several evaluations; the decisions are those that the specification shows."""
+    all = [item_of(AUTHZEN, READS_ALL, it) for it in items][:len(wanted)]
+    assert [it["decision"] for it in all] == wanted, (what, all)
+    return evaluates_all(what, AUTHZEN, READS_ALL, items, all, semantic)
+
+
+assert AUTHZEN.evaluated(SHOWN)["decision"] and not AUTHZEN.evaluated(SHOWN | {"action": {"name": "can_read", "properties": {"method": "PUT"}}})["decision"]
+SPECIFICATION = [
+    takes("AuthZEN's policies", NEW_POLICIES, AUTHZEN.texts[0], version_of(AUTHZEN.texts[0], read("documents.json"))),
+    takes("AuthZEN's entities", NEW_ENTITIES, AUTHZEN.texts[1], AUTHZEN.version),
+    AUTHZEN.evaluates("AuthZEN's evaluation", SHOWN),
+    AUTHZEN.evaluates("the same with another property", SHOWN | {"action": {"name": "can_read", "properties": {"method": "PUT"}}}),
+    AUTHZEN.evaluates("a subject with properties", SHOWN | {"subject": {"type": "user", "id": "alice@acmecorp.com", "properties": {
+        "department": "Sales", "ip_address": "172.217.22.14", "device_id": "8:65:ee:17:7e:0b"}}}),
+    AUTHZEN.evaluates("a resource with properties", {"subject": {"type": "user", "id": "alice@acmecorp.com"}, "action": {"name": "extendLoan", "properties": {
+        "period": "2W"}}, "resource": {"type": "book", "id": "123", "properties": {"library_record": {"title": "AuthZEN in Action", "isbn": "978-0593383322"}}}}),
+    shown("several, with the defaults", EDITS, None, [True, False, False]),
+    shown("execute_all", THREE, "execute_all", [True, False, True]),
+    shown("deny_on_first_deny", THREE, "deny_on_first_deny", [True, False]),
+    shown("permit_on_first_permit", [THREE[1], THREE[0], THREE[2]], "permit_on_first_permit", [False, True]),
+    *AUTHZEN.pages("the subject search", "subject", {"subject": {"type": "user"}, "action": {"name": "can_read"}, "resource": ACCOUNT,
+                                                   "context": {"time": "2024-10-26T01:22-07:00"}}),
+    *AUTHZEN.pages("the resource search", "resource", {"subject": ALICE, "action": {"name": "can_read"}, "resource": {"type": "account"}}),
+    *AUTHZEN.pages("the action search", "action", {"subject": ALICE, "resource": ACCOUNT, "context": {"time": "2024-10-26T01:22-07:00"}}),
+    takes("the first policies, behind AuthZEN's", NEW_POLICIES, read("documents.cedar"), version_of(read("documents.cedar"), AUTHZEN.texts[1])),
+    takes("the first entities, behind AuthZEN's", NEW_ENTITIES, read("documents.json"), VERSION),
+]
+
 # ---- other policies and entities, one after another
 
 LESS = b'permit(principal == User::"bob", action, resource);'
@@ -451,10 +723,6 @@ FEWER = b'[{"uid": {"type": "Document", "id": "plan"}, "attrs": {}, "parents": [
 POLICIES_TEXT, ENTITIES_TEXT = read("documents.cedar"), read("documents.json")
 SECOND, THIRD, FOURTH = version_of(LESS, ENTITIES_TEXT), version_of(LESS, FEWER), version_of(POLICIES_TEXT, FEWER)
 NO_PUT = lambda **more: wrong("$", "there is PUT alone", 405, allow="PUT", **more)
-
-
-def takes(what, path, text, of):
-    return (what, request("PUT", path, text), due(200, {"version": of}, of=of))
 
 
 def left_out(what, path, text, where, reason, of=VERSION):
@@ -550,7 +818,7 @@ LAST = [
 
 def interleaved():
     """All but the last, in an order that sets good, bad and other ones beside each other."""
-    groups = [list(it) for it in (DECISIONS, WRONG, ENDPOINTS, IDS, CEDAR, FRAMING, SEVERAL, SEARCHES, PARTIAL)]
+    groups = [list(it) for it in (DECISIONS, WRONG, ENDPOINTS, IDS, CEDAR, FRAMING, SEVERAL, SEARCHES, PARTIAL, PROPERTIES, MANY, BROUGHT)]
     out = []
     while any(groups):
         for group in groups:
@@ -559,7 +827,7 @@ def interleaved():
 
 
 def conversation():
-    rows = [*interleaved(), *RELOADS, CUT]
+    rows = [*interleaved(), *RELOADS, *SPECIFICATION, CUT]
     return rows, b"".join(it[1] for it in rows), b"".join(it[2] for it in rows)
 
 
@@ -622,6 +890,7 @@ def run(program):
         check("the same in pieces", [sent[a:b] for a, b in zip([0, *cuts], [*cuts, len(sent)])], wanted)
     for what, last, ends in LAST:
         check(what, [request("POST", EVALUATION, GOOD) + last], due(200, GOOD_DUE) + ends)
+    check("the request wins", [it[1] for it in WINNING], b"".join(it[2] for it in WINNING), [*options(), "--request-attributes-win"])
     sent, wanted = lines()
     words = [*options()[:4], "--lines"]
     check("lines", [sent], wanted, words)

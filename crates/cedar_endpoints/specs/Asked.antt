@@ -7,6 +7,7 @@ use Rattle.json.specs.Value.{value_view}
 use Rattle.cedar_endpoints.specs.declared.asked.Fault as faults
 use Rattle.cedar_endpoints.specs.declared.asked.Named as nameds
 use Rattle.cedar_endpoints.specs.declared.asked.Evaluation as evaluations
+use Rattle.cedar_endpoints.specs.declared.asked.Properties as given
 use Rattle.cedar_endpoints.specs.declared.asked.Keys.{Keys}
 use Rattle.cedar_endpoints.specs.declared.asked.Keys.TheVariants as keys
 
@@ -28,12 +29,19 @@ pub record Named : Type 0 where
   pub type_name : Text
   pub id : Text
 
--- who asks, the name of what is to be done, what it is to be done with, and the context, where one is given
+-- the properties that are given of each: where there are some, an object with a member at least
+pub record Properties : Type 0 where
+  pub subject : Option Json
+  pub action : Option Json
+  pub resource : Option Json
+
+-- who asks, the name of what is to be done, what it is to be done with, the context, where one is given, and properties
 pub record Evaluation : Type 0 where
   pub subject : Named
   pub action : Text
   pub resource : Named
   pub context : Option Json
+  pub properties : Properties
 
 -- ---- how these are seen
 
@@ -43,12 +51,20 @@ fault_view f = record { part = f.part.now; member = f.member.now; reason = f.rea
 abbrev pub named_view : nameds.Named → Named
 named_view n = record { type_name = n.type_name.now; id = n.id.now }
 
+abbrev pub properties_view : given.Properties → Properties
+properties_view p = record {
+  subject = option_map (λ v. value_view v.now) p.subject;
+  action = option_map (λ v. value_view v.now) p.action;
+  resource = option_map (λ v. value_view v.now) p.resource;
+}
+
 abbrev pub evaluation_view : evaluations.Evaluation → Evaluation
 evaluation_view e = record {
   subject = named_view e.subject;
   action = e.action.now;
   resource = named_view e.resource;
   context = option_map (λ v. value_view v.now) e.context;
+  properties = properties_view e.properties;
 }
 
 -- an answer, as what is said
@@ -88,7 +104,7 @@ is_action_search_key k =
 abbrev pub is_request_key : Text → Bool
 is_request_key k =
     bytes_eq k (codes "principal") || (bytes_eq k (codes "action") || (bytes_eq k (codes "resource")
-    || bytes_eq k (codes "context")))
+    || (bytes_eq k (codes "context") || bytes_eq k (codes "entities"))))
 
 abbrev pub knows : Keys → Text → Bool
 knows keys.Evaluation k = is_evaluation_key k
@@ -122,21 +138,49 @@ members_fault ks part (Some ms) = other_fault part (has_other ks ms)
 abbrev pub object_fault : Keys → Text → Json → Option Fault
 object_fault ks part j = members_fault ks part (as_object j)
 
--- ---- properties: none may be given, since none is handed on to a policy
+-- ---- properties
 
-abbrev pub given_fault : Text → Option Members → Option Fault
-given_fault part None = fault part (codes ".properties") (codes "not an object")
-given_fault part (Some no_members) = None
-given_fault part (Some (member k j ms)) = fault part (codes ".properties") (codes "properties are not supported")
+abbrev pub kind_fault : Text → Option Members → Option Fault
+kind_fault part None = fault part (codes ".properties") (codes "not an object")
+kind_fault part (Some ms) = None
 
 abbrev pub properties_fault : Text → Option Json → Option Fault
 properties_fault part None = None
-properties_fault part (Some j) = given_fault part (as_object j)
+properties_fault part (Some j) = kind_fault part (as_object j)
 
--- it is no object of these members, or has properties
+-- it is no object of these members, or has properties that are none
 abbrev pub shape_fault : Keys → Text → Json → Option Fault
 shape_fault ks part j =
     option_or (object_fault ks part j) (properties_fault part (get (codes "properties") j))
+
+abbrev pub some_fault : Text → Option Members → Option Fault
+some_fault part None = fault part (codes ".properties") (codes "not an object")
+some_fault part (Some no_members) = None
+some_fault part (Some (member k j ms)) =
+    fault part (codes ".properties") (codes "properties of what is searched for")
+
+abbrev pub given_fault : Text → Option Json → Option Fault
+given_fault part None = None
+given_fault part (Some j) = some_fault part (as_object j)
+
+-- it is no object of these members, or has properties: it may not, since only its type is known
+abbrev pub bare_fault : Keys → Text → Json → Option Fault
+bare_fault ks part j = option_or (object_fault ks part j) (given_fault part (get (codes "properties") j))
+
+abbrev pub has_members : Option Members → Bool
+has_members None = false
+has_members (Some no_members) = false
+has_members (Some (member k j ms)) = true
+
+-- empty properties are none
+abbrev pub given_at : Option Json → Option Json
+given_at None = None
+given_at (Some j) = if has_members (as_object j) then Some j else None
+
+-- the properties of a part
+abbrev pub given_in : Option Json → Option Json
+given_in None = None
+given_in (Some j) = given_at (get (codes "properties") j)
 
 -- ---- parts
 
@@ -188,9 +232,18 @@ abbrev pub member_of : Text → Json → Option Json → Option Json
 member_of k j None = get k j
 member_of k j (Some all) = option_or (get k j) (get k all)
 
+-- the properties of the parts, each taken whole
+abbrev pub properties_of : Json → Option Json → Properties
+properties_of j all = record {
+  subject = given_in (member_of (codes "subject") j all);
+  action = given_in (member_of (codes "action") j all);
+  resource = given_in (member_of (codes "resource") j all);
+}
+
 abbrev pub with_context : Json → Option Json → Named → Text → Named → Said Evaluation
 with_context j all s a r =
-    and_then (λ c. Ok (record { subject = s; action = a; resource = r; context = c }))
+    and_then
+    (λ c. Ok (record { subject = s; action = a; resource = r; context = c; properties = properties_of j all }))
     (context_said (member_of (codes "context") j all))
 
 abbrev pub with_resource : Json → Option Json → Named → Text → Said Evaluation

@@ -110,9 +110,9 @@ partial_said j = unless (object_fault keys.Request [] j) (and_then (with_action 
 
 -- ---- what is replied
 
--- what may be left of the policies for a request
+-- what may be left of the policies for a request, with the entities that the text which writes it brings
 abbrev pub Leaves : Type 1
-Leaves = Partial → Remainder → Type 0
+Leaves = Partial → Text → Remainder → Type 0
 
 -- what is left with 200, as it is; or why nothing is told with 400
 abbrev pub IsRemainder : Remainder → Reply → Type 0
@@ -120,10 +120,10 @@ IsRemainder (remainders.Told response) = Replies statuses.Ok (string_bytes respo
 IsRemainder (remainders.Refused error) = Replies statuses.BadRequest (error_text (string_bytes error))
 
 -- what is left for what is said; or 400 for what is wrong
-abbrev pub IsLeft : Leaves → Said Partial → Reply → Type 0
-IsLeft leaves (Err f) r = IsFault statuses.BadRequest f r
-IsLeft leaves (Ok q) r = (o : Remainder) × leaves q o × IsRemainder o r
+abbrev pub IsLeft : Leaves → Text → Said Partial → Reply → Type 0
+IsLeft leaves text (Err f) r = IsFault statuses.BadRequest f r
+IsLeft leaves text (Ok q) r = (o : Remainder) × leaves q text o × IsRemainder o r
 
--- the document's request is answered, if it says one
-abbrev pub IsPartlyAnswered : Leaves → Json → Reply → Type 0
-IsPartlyAnswered leaves j r = IsLeft leaves (partial_said j) r
+-- the request of the document that the text writes is answered, if it says one
+abbrev pub IsPartlyAnswered : Leaves → Text → Json → Reply → Type 0
+IsPartlyAnswered leaves text j r = IsLeft leaves text (partial_said j) r

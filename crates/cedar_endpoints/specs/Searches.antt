@@ -11,7 +11,7 @@ use Rattle.cedar_endpoints.specs.declared.searches.Parts as rust_parts
 use Rattle.cedar_endpoints.specs.declared.searches.Parts.TheVariants as variants
 use Rattle.cedar_endpoints.specs.declared.searches.Search as rust_search
 use Rattle.cedar_endpoints.specs.declared.searches.PageSearch as rust_page
-use Rattle.cedar_endpoints.specs.Asked.{Text, Said, Named, named_view, wrong, unless, and_then, object_fault, shape_fault, text_in, text_said, entity_said, action_said, context_said}
+use Rattle.cedar_endpoints.specs.Asked.{Text, Said, Named, Properties, named_view, properties_view, wrong, unless, and_then, object_fault, bare_fault, given_in, text_in, text_said, entity_said, action_said, context_said}
 
 -- what is known of an evaluation of which a part is searched for: subjects or resources of a type, or actions
 pub data Parts : Type 0 where
@@ -19,10 +19,11 @@ pub data Parts : Type 0 where
   an_action : (subject resource : Named) → Parts
   a_resource : (subject : Named) (action type_name : Text) → Parts
 
--- what is searched for, and the context, where one is given
+-- what is searched for, the context, where one is given, and the properties of the parts that are known
 pub record Search : Type 0 where
   pub parts : Parts
   pub context : Option Json
+  pub properties : Properties
 
 -- a search, and the token of the page that is asked for, where that is not the first
 pub record PageSearch : Type 0 where
@@ -37,7 +38,11 @@ parts_view (variants.Action s r) = an_action (named_view s) (named_view r)
 parts_view (variants.Resource s a t) = a_resource (named_view s) a.now t.now
 
 abbrev pub search_view : rust_search.Search → Search
-search_view s = record { parts = parts_view s.parts; context = option_map (λ v. value_view v.now) s.context }
+search_view s = record {
+  parts = parts_view s.parts;
+  context = option_map (λ v. value_view v.now) s.context;
+  properties = properties_view s.properties;
+}
 
 abbrev pub page_search_view : rust_page.PageSearch → PageSearch
 page_search_view s = record { search = search_view s.search; token = option_map (λ t. t.now) s.token }
@@ -47,7 +52,7 @@ page_search_view s = record { search = search_view s.search; token = option_map 
 -- the type of what is searched for, whose id is not looked at
 abbrev pub type_in : Text → Json → Said Text
 type_in part j =
-    unless (shape_fault keys.Entity part j) (text_said part (codes ".type") (get (codes "type") j))
+    unless (bare_fault keys.Entity part j) (text_said part (codes ".type") (get (codes "type") j))
 
 abbrev pub type_said : Text → Option Json → Said Text
 type_said part None = wrong part [] (codes "missing")
@@ -107,9 +112,29 @@ abbrev pub with_page : Json → Search → Said PageSearch
 with_page j s =
     and_then (λ t. Ok (record { search = s; token = t })) (token_said (get (codes "page") j))
 
+-- of the parts that are known
+abbrev pub known_properties : Parts → Json → Properties
+known_properties (a_subject t a r) j = record {
+  subject = None;
+  action = given_in (get (codes "action") j);
+  resource = given_in (get (codes "resource") j);
+}
+known_properties (an_action s r) j = record {
+  subject = given_in (get (codes "subject") j);
+  action = None;
+  resource = given_in (get (codes "resource") j);
+}
+known_properties (a_resource s a t) j = record {
+  subject = given_in (get (codes "subject") j);
+  action = given_in (get (codes "action") j);
+  resource = None;
+}
+
+abbrev pub search_of : Json → Parts → Option Json → Search
+search_of j ps c = record { parts = ps; context = c; properties = known_properties ps j }
+
 abbrev pub with_context : Json → Parts → Said PageSearch
-with_context j ps =
-    and_then (λ c. with_page j (record { parts = ps; context = c })) (context_said (get (codes "context") j))
+with_context j ps = and_then (λ c. with_page j (search_of j ps c)) (context_said (get (codes "context") j))
 
 -- which members a search has
 abbrev pub keys_of : Sought → Keys

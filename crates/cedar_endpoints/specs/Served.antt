@@ -75,13 +75,13 @@ offered decides authorizes leaves searches reloads metadata =
       metadata = metadata;
     }
 
--- what is replied to a document: one evaluation is decided, or all of a document that may ask several, or it is a page
--- of what is searched for, or what is left of policies
-abbrev pub IsAskedAs : Asks → Offers → Json → Reply → Type 0
-IsAskedAs asks.One s = IsEvaluated s.decides
-IsAskedAs asks.Several s = AreEvaluated s.decides
-IsAskedAs (asks.Part sought) s = IsSearched s.searches sought
-IsAskedAs asks.Partly s = IsPartlyAnswered s.leaves
+-- what is replied to a document, which this text writes: one evaluation is decided, or all of a document that may ask
+-- several, or it is a page of what is searched for, or what is left of policies
+abbrev pub IsAskedAs : Asks → Offers → Text → Json → Reply → Type 0
+IsAskedAs asks.One s text = IsEvaluated s.decides
+IsAskedAs asks.Several s text = AreEvaluated s.decides
+IsAskedAs (asks.Part sought) s text = IsSearched s.searches sought
+IsAskedAs asks.Partly s text = IsPartlyAnswered s.leaves text
 
 -- what is replied at an endpoint to a body
 abbrev pub IsReply : Offers → Route → Text → Reply → Type 0
@@ -89,7 +89,7 @@ IsReply s routes.Evaluation body r = IsRepliedTo (IsEvaluated s.decides) body r
 IsReply s routes.Evaluations body r = IsRepliedTo (AreEvaluated s.decides) body r
 IsReply s (routes.Search sought) body r = IsRepliedTo (IsSearched s.searches sought) body r
 IsReply s routes.Authorize body r = IsAuthorized s.authorizes body r
-IsReply s routes.PartiallyAuthorize body r = IsRepliedTo (IsPartlyAnswered s.leaves) body r
+IsReply s routes.PartiallyAuthorize body r = IsRepliedTo (IsPartlyAnswered s.leaves body) body r
 IsReply s (routes.Reload part) body r = IsUntakenIf s.reloads.allows s.reloads.refuses part body r
 IsReply s routes.Health body r = Replies statuses.Ok (codes "{\"status\":\"ok\"}") r
 IsReply s routes.Metadata body r = IsMetadata s.metadata r

@@ -26,13 +26,25 @@ pub struct Named<'v> {
     pub id: &'v str,
 }
 
-/// Who asks, the name of what is to be done, what it is to be done with, and the context, where one is given.
+/// Who asks, the name of what is to be done, what it is to be done with, the context, where one is given, and properties.
 #[derive(Clone, Copy)]
 pub struct Evaluation<'v, 'a> {
     pub subject: Named<'v>,
     pub action: &'v str,
     pub resource: Named<'v>,
     pub context: Option<&'v Value<'a>>,
+    pub properties: Properties<'v, 'a>,
+}
+
+/// The properties that are given of each part: where there are some, an object with a member at least.
+#[derive(Clone, Copy)]
+pub struct Properties<'v, 'a> {
+    /// Of who asks.
+    pub subject: Option<&'v Value<'a>>,
+    /// Of what is to be done.
+    pub action: Option<&'v Value<'a>>,
+    /// Of what it is to be done with.
+    pub resource: Option<&'v Value<'a>>,
 }
 
 /// Which members an object may have.
@@ -62,9 +74,9 @@ pub enum Keys {
     Escape,
 }
 
-/// What the document asks by itself. Refuses what is no object, a member that is unexpected, one that is missing or of
-/// another kind, and properties, unless they are empty: the first of these, in the order subject, action, resource,
-/// context.
+/// What the document asks by itself. Refuses what is no object, and a member that is unexpected, missing or of another
+/// kind: the first of these, in the order subject, action, resource, context. What stands in properties is not looked
+/// at; empty ones are none.
 pub fn read_evaluation<'v, 'a>(value: &'v Value<'a>) -> Result<Evaluation<'v, 'a>, Fault>
     ensures { asked.told asked.evaluation_view result ≡ asked.evaluation_said (value_view value.now) }
 {
@@ -147,6 +159,7 @@ fn with_context<'v, 'a>(
             action,
             resource,
             context,
+            properties: properties_of(value, all),
         }),
         Err(fault) => Err(fault),
     }
@@ -305,12 +318,22 @@ pub(crate) fn text_in<'v>(
 // ---- shapes
 
 // What is wrong with the shape of an object that may have properties.
-pub(crate) fn shape_fault(keys: Keys, part: &'static str, value: &Value<'_>) -> Option<Fault>
+fn shape_fault(keys: Keys, part: &'static str, value: &Value<'_>) -> Option<Fault>
     ensures { option_map asked.fault_view result ≡ asked.shape_fault keys part.now (value_view value.now) }
 {
     match object_fault(keys, part, value) {
         Some(fault) => Some(fault),
         None => properties_fault(part, value.get("properties")),
+    }
+}
+
+// The same of an object that may have none but empty ones.
+pub(crate) fn bare_fault(keys: Keys, part: &'static str, value: &Value<'_>) -> Option<Fault>
+    ensures { option_map asked.fault_view result ≡ asked.bare_fault keys part.now (value_view value.now) }
+{
+    match object_fault(keys, part, value) {
+        Some(fault) => Some(fault),
+        None => given_fault(part, value.get("properties")),
     }
 }
 
@@ -375,7 +398,11 @@ fn knows(keys: Keys, key: &str) -> bool
 fn is_request_key(key: &str) -> bool
     ensures { result ≡ asked.is_request_key key.now }
 {
-    key == "principal" || key == "action" || key == "resource" || key == "context"
+    key == "principal"
+        || key == "action"
+        || key == "resource"
+        || key == "context"
+        || key == "entities"
 }
 
 fn is_evaluation_key(key: &str) -> bool
@@ -395,17 +422,17 @@ fn properties_fault(part: &'static str, value: Option<&Value<'_>>) -> Option<Fau
         ≡ asked.properties_fault part.now (option_map (λ v. value_view v.now) value.entry) }
 {
     match value {
-        Some(value) => given_fault(part, value),
+        Some(value) => kind_fault(part, value),
         None => None,
     }
 }
 
-fn given_fault(part: &'static str, value: &Value<'_>) -> Option<Fault>
+fn kind_fault(part: &'static str, value: &Value<'_>) -> Option<Fault>
     ensures { option_map asked.fault_view result
-        ≡ asked.given_fault part.now (as_object (value_view value.now)) }
+        ≡ asked.kind_fault part.now (as_object (value_view value.now)) }
 {
     match object(value) {
-        Some(members) => some_fault(part, members.as_slice()),
+        Some(_) => None,
         None => Some(Fault {
             part,
             member: ".properties",
@@ -414,8 +441,32 @@ fn given_fault(part: &'static str, value: &Value<'_>) -> Option<Fault>
     }
 }
 
-fn some_fault(part: &'static str, members: &[(&str, Value<'_>)]) -> Option<Fault>
-    ensures { option_map asked.fault_view result ≡ asked.given_fault part.now (Some (members_view members.now)) }
+fn given_fault(part: &'static str, value: Option<&Value<'_>>) -> Option<Fault>
+    ensures { option_map asked.fault_view result
+        ≡ asked.given_fault part.now (option_map (λ v. value_view v.now) value.entry) }
+{
+    match value {
+        Some(value) => some_fault(part, value),
+        None => None,
+    }
+}
+
+fn some_fault(part: &'static str, value: &Value<'_>) -> Option<Fault>
+    ensures { option_map asked.fault_view result
+        ≡ asked.some_fault part.now (as_object (value_view value.now)) }
+{
+    match object(value) {
+        Some(members) => members_given_fault(part, members.as_slice()),
+        None => Some(Fault {
+            part,
+            member: ".properties",
+            reason: "not an object",
+        }),
+    }
+}
+
+fn members_given_fault(part: &'static str, members: &[(&str, Value<'_>)]) -> Option<Fault>
+    ensures { option_map asked.fault_view result ≡ asked.some_fault part.now (Some (members_view members.now)) }
 {
     if members.is_empty() {
         None
@@ -423,9 +474,69 @@ fn some_fault(part: &'static str, members: &[(&str, Value<'_>)]) -> Option<Fault
         Some(Fault {
             part,
             member: ".properties",
-            reason: "properties are not supported",
+            reason: "properties of what is searched for",
         })
     }
+}
+
+// ---- properties
+
+// Those of the item's own members or, where it has none, of the ones that stand for all.
+fn properties_of<'v, 'a>(value: &'v Value<'a>, all: Option<&'v Value<'a>>) -> Properties<'v, 'a>
+    ensures { asked.properties_view result
+        ≡ asked.properties_of (value_view value.now) (option_map (λ v. value_view v.now) all.entry) }
+{
+    Properties {
+        subject: given_in(member_of("subject", value, all)),
+        action: given_in(member_of("action", value, all)),
+        resource: given_in(member_of("resource", value, all)),
+    }
+}
+
+/// The properties of the part, unless there are none.
+pub(crate) fn given_in<'v, 'a>(part: Option<&'v Value<'a>>) -> Option<&'v Value<'a>>
+    ensures { option_map (λ v. value_view v.now) result
+        ≡ asked.given_in (option_map (λ v. value_view v.now) part.entry) }
+{
+    match part {
+        Some(part) => given_at(part.get("properties")),
+        None => None,
+    }
+}
+
+fn given_at<'v, 'a>(properties: Option<&'v Value<'a>>) -> Option<&'v Value<'a>>
+    ensures { option_map (λ v. value_view v.now) result
+        ≡ asked.given_at (option_map (λ v. value_view v.now) properties.entry) }
+{
+    match properties {
+        Some(properties) => some_given(properties),
+        None => None,
+    }
+}
+
+fn some_given<'v, 'a>(properties: &'v Value<'a>) -> Option<&'v Value<'a>>
+    ensures { option_map (λ v. value_view v.now) result ≡ asked.given_at (Some (value_view properties.now)) }
+{
+    if has_members(properties) {
+        Some(properties)
+    } else {
+        None
+    }
+}
+
+fn has_members(value: &Value<'_>) -> bool
+    ensures { result ≡ asked.has_members (as_object (value_view value.now)) }
+{
+    match object(value) {
+        Some(members) => has_some(members.as_slice()),
+        None => false,
+    }
+}
+
+fn has_some(members: &[(&str, Value<'_>)]) -> bool
+    ensures { result ≡ asked.has_members (Some (members_view members.now)) }
+{
+    if members.is_empty() { false } else { true }
 }
 
 // The members, where the value is an object.

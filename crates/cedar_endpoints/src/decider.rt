@@ -36,8 +36,8 @@ pub trait Decider: Drop {
     // What may be told where the text is refused.
     ghost refuses: { Self → Replaced → List ℕ → List ℕ → Type 0 };
 
-    // What may be left of the policies for this request.
-    ghost leaves: { Self → partials.Partial → Remainder → Type 0 };
+    // What may be left of the policies for this request, with the entities that this text, which writes it, brings.
+    ghost leaves: { Self → partials.Partial → List ℕ → Remainder → Type 0 };
 
     // What may be decided for the request that this text writes.
     ghost authorizes: { Self → List ℕ → Outcome → Type 0 };
@@ -69,14 +69,15 @@ pub trait Decider: Drop {
     fn authorize(&self, alloc: Global, text: &str) -> Result<Outcome, AllocError>
         ensures { IfOk result (authorizes self.now text.now) };
 
-    /// What is left of the policies for a request of which parts may be unknown, or why nothing is told. Refuses only
-    /// if out of memory.
+    /// What is left of the policies for a request of which parts may be unknown, with the entities that its text brings,
+    /// or why nothing is told. Refuses only if out of memory.
     fn authorize_partially(
         &self,
         alloc: Global,
         request: &Partial<'_, '_>,
+        text: &str,
     ) -> Result<Remainder, AllocError>
-        ensures { IfOk result (leaves self.now (partials.partial_view request.now)) };
+        ensures { IfOk result (leaves self.now (partials.partial_view request.now) text.now) };
 
     /// What takes its place where this text is taken in place of its policies or its entities. Refuses a text that is
     /// wrong.

@@ -37,7 +37,7 @@ mod several;
 mod tokens;
 
 pub use answers::Status;
-pub use asked::{Evaluation, Fault, Keys, Named, read_evaluation};
+pub use asked::{Evaluation, Fault, Keys, Named, Properties, read_evaluation};
 pub use decider::Decider;
 pub use lines::answer_lines;
 pub use partials::{Entry, Partial, read_partial};

@@ -37,7 +37,7 @@ pub struct Partial<'v, 'a> {
 
 /// What the document asks. An entity that is left out is unknown; one without an `id` is unknown and of its `type`.
 /// Refuses what is no object, a member that is unexpected, one that is missing or of another kind: the first of these,
-/// in the order principal, action, resource, context.
+/// in the order principal, action, resource, context. A member `entities` is not looked at.
 pub fn read_partial<'v, 'a>(value: &'v Value<'a>) -> Result<Partial<'v, 'a>, Fault>
     ensures { told partials.partial_view result ≡ partials.partial_said (value_view value.now) }
 {
@@ -214,26 +214,30 @@ fn known_as<'v>(
 
 // ---- what is replied
 
-/// What is left of the policies for the document's request, or 400 for what is wrong. Refuses only if out of memory.
+/// What is left of the policies for the document's request, which the text writes, or 400 for what is wrong. Refuses
+/// only if out of memory.
 pub(crate) fn answer_partly<D: Decider>(
     alloc: Global,
     decider: &D,
+    text: &str,
     value: &Value<'_>,
 ) -> Result<Reply, AllocError>
-    ensures { IfOk result (partials.IsPartlyAnswered (D.leaves decider.now) (value_view value.now)) }
+    ensures { IfOk result (partials.IsPartlyAnswered (D.leaves decider.now) text.now (value_view value.now)) }
 {
-    answer_said(alloc, decider, read_partial(value))
+    answer_said(alloc, decider, text, read_partial(value))
 }
 
 fn answer_said<D: Decider>(
     alloc: Global,
     decider: &D,
+    text: &str,
     said: Result<Partial<'_, '_>, Fault>,
 ) -> Result<Reply, AllocError>
-    ensures { IfOk result (partials.IsLeft (D.leaves decider.now) (told partials.partial_view said.entry)) }
+    ensures { IfOk result
+        (partials.IsLeft (D.leaves decider.now) text.now (told partials.partial_view said.entry)) }
 {
     match said {
-        Ok(asked) => answer(alloc, decider, &asked),
+        Ok(asked) => answer(alloc, decider, text, &asked),
         Err(fault) => faulty(alloc, Status::BadRequest, fault),
     }
 }
@@ -241,11 +245,12 @@ fn answer_said<D: Decider>(
 fn answer<D: Decider>(
     alloc: Global,
     decider: &D,
+    text: &str,
     asked: &Partial<'_, '_>,
 ) -> Result<Reply, AllocError>
-    ensures { IfOk result (partials.IsLeft (D.leaves decider.now) (Ok (partials.partial_view asked.now))) }
+    ensures { IfOk result (partials.IsLeft (D.leaves decider.now) text.now (Ok (partials.partial_view asked.now))) }
 {
-    let remainder = decider.authorize_partially(alloc, asked)?;
+    let remainder = decider.authorize_partially(alloc, asked, text)?;
     reply_of(alloc, &remainder)
 }
 

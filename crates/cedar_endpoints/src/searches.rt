@@ -4,12 +4,12 @@ ghost use Rattle.std.specs.Prelude.{◌≡◌, option_map, codes};
 ghost use Rattle.json.specs.Find.{as_str, get};
 ghost use Rattle.json.specs.Value.{value_view};
 ghost use Rattle.cedar_endpoints.specs.Asked.{told, and_then, named_view, entity_said, action_said};
-ghost use Rattle.cedar_endpoints.specs.Asked.{context_said, text_in};
+ghost use Rattle.cedar_endpoints.specs.Asked.{context_said, text_in, properties_view};
 ghost use Rattle.cedar_endpoints.specs.Searches as searches;
 
 use crate::asked::{
-    Fault, Keys, Named, action_of, context_of, entity_of, object_fault, shape_fault, text_in,
-    text_of,
+    Fault, Keys, Named, Properties, action_of, bare_fault, context_of, entity_of, given_in,
+    object_fault, text_in, text_of,
 };
 use json::Value;
 
@@ -46,11 +46,12 @@ pub enum Parts<'v> {
     },
 }
 
-/// What is searched for, and the context, where one is given.
+/// What is searched for, the context, where one is given, and the properties of the parts that are known.
 #[derive(Clone, Copy)]
 pub struct Search<'v, 'a> {
     pub parts: Parts<'v>,
     pub context: Option<&'v Value<'a>>,
+    pub properties: Properties<'v, 'a>,
 }
 
 /// A search, and the token of the page that is asked for, where that is not the first.
@@ -60,9 +61,9 @@ pub struct PageSearch<'v, 'a> {
     pub token: Option<&'v str>,
 }
 
-/// What the document searches for. Refuses what is no object, a member that is unexpected, one that is missing or of
-/// another kind, and properties, unless they are empty: the first of these, in the order subject, action, resource,
-/// context, page. The id of a subject or a resource that is searched for is not looked at.
+/// What the document searches for. Refuses what is no object, a member that is unexpected, missing or of another kind,
+/// and properties of what is searched for, unless they are empty: the first of these, in the order subject, action,
+/// resource, context, page. The id of a subject or a resource that is searched for is not looked at.
 pub fn read_search<'v, 'a>(
     sought: Sought,
     value: &'v Value<'a>,
@@ -222,7 +223,7 @@ fn type_of<'v>(part: &'static str, value: Option<&'v Value<'_>>) -> Result<&'v s
 fn type_in<'v>(part: &'static str, value: &'v Value<'_>) -> Result<&'v str, Fault>
     ensures { told (λ t. t.now) result ≡ searches.type_in part.now (value_view value.now) }
 {
-    match shape_fault(Keys::Entity, part, value) {
+    match bare_fault(Keys::Entity, part, value) {
         Some(fault) => Err(fault),
         None => text_of(part, ".type", value.get("type")),
     }
@@ -235,8 +236,48 @@ fn with_context<'v, 'a>(value: &'v Value<'a>, parts: Parts<'v>) -> Result<PageSe
         ≡ searches.with_context (value_view value.now) (searches.parts_view parts.entry) }
 {
     match context_of(value.get("context")) {
-        Ok(context) => with_page(value, Search { parts, context }),
+        Ok(context) => with_page(value, search_of(value, parts, context)),
         Err(fault) => Err(fault),
+    }
+}
+
+fn search_of<'v, 'a>(
+    value: &'v Value<'a>,
+    parts: Parts<'v>,
+    context: Option<&'v Value<'a>>,
+) -> Search<'v, 'a>
+    ensures { searches.search_view result
+        ≡ searches.search_of (value_view value.now) (searches.parts_view parts.entry)
+        (option_map (λ v. value_view v.now) context.entry) }
+{
+    Search {
+        parts,
+        context,
+        properties: known_properties(parts, value),
+    }
+}
+
+// Of the parts that are known.
+fn known_properties<'v, 'a>(parts: Parts<'v>, value: &'v Value<'a>) -> Properties<'v, 'a>
+    ensures { properties_view result
+        ≡ searches.known_properties (searches.parts_view parts.entry) (value_view value.now) }
+{
+    match parts {
+        Parts::Subject { .. } => Properties {
+            subject: None,
+            action: given_in(value.get("action")),
+            resource: given_in(value.get("resource")),
+        },
+        Parts::Action { .. } => Properties {
+            subject: given_in(value.get("subject")),
+            action: None,
+            resource: given_in(value.get("resource")),
+        },
+        Parts::Resource { .. } => Properties {
+            subject: given_in(value.get("subject")),
+            action: given_in(value.get("action")),
+            resource: None,
+        },
     }
 }
 

@@ -286,7 +286,7 @@ fn ask<D: Decider>(service: &Decisions<D>, asks: Asks, body: &[u8]) -> Result<Re
         (finder_of (D.finds service.now.decider) (D.version service.now.decider) (D.count service.now.decider)
         service.now.page)
         (reloads_of service.now.allows_reload (D.refuses service.now.decider))
-        (option_map string_bytes service.now.metadata))) body.now) }
+        (option_map string_bytes service.now.metadata)) body.now) body.now) }
 {
     match str::from_utf8(body) {
         Ok(text) => ask_text(service, asks, text),
@@ -300,12 +300,12 @@ fn ask_text<D: Decider>(service: &Decisions<D>, asks: Asks, text: &str) -> Resul
         (finder_of (D.finds service.now.decider) (D.version service.now.decider) (D.count service.now.decider)
         service.now.page)
         (reloads_of service.now.allows_reload (D.refuses service.now.decider))
-        (option_map string_bytes service.now.metadata))) text.now) }
+        (option_map string_bytes service.now.metadata)) text.now) text.now) }
 {
     let alloc = service.alloc;
     let mut scratch = Scratch::new(alloc);
     match parse_json(alloc, text, &mut scratch) {
-        Ok(value) => ask_value(service, asks, &value),
+        Ok(value) => ask_value(service, asks, text, &value),
         Err(unread) => reply_unread(alloc, unread),
     }
 }
@@ -329,6 +329,7 @@ fn reply_unread(alloc: Global, unread: Unread) -> Result<Reply, AllocError>
 fn ask_value<D: Decider>(
     service: &Decisions<D>,
     asks: Asks,
+    text: &str,
     value: &Value<'_>,
 ) -> Result<Reply, AllocError>
     ensures { IfOk result (IsAskedAs asks (offered
@@ -336,14 +337,14 @@ fn ask_value<D: Decider>(
         (finder_of (D.finds service.now.decider) (D.version service.now.decider) (D.count service.now.decider)
         service.now.page)
         (reloads_of service.now.allows_reload (D.refuses service.now.decider))
-        (option_map string_bytes service.now.metadata)) (value_view value.now)) }
+        (option_map string_bytes service.now.metadata)) text.now (value_view value.now)) }
 {
     let alloc = service.alloc;
     match asks {
         Asks::One => evaluate_one(alloc, &service.decider, value),
         Asks::Several => evaluate_all(alloc, &service.decider, value),
         Asks::Part(sought) => search_value(alloc, &service.decider, service.page, sought, value),
-        Asks::Partly => answer_partly(alloc, &service.decider, value),
+        Asks::Partly => answer_partly(alloc, &service.decider, text, value),
     }
 }
 

@@ -25,15 +25,16 @@ pub record IsServedBy (s : Decisions Loaded) (config : Config) (h : History) : T
   pub sent : ∥ IsServed config h ∥₁
 
 -- The same of a service that decides as the policies and the entities do that these texts say, and tells where it is,
--- if that is given; whose pages have so many at most; and which takes others in their place, or does not.
-pub record IsServedFrom (policies entities : Text) (url : Option Text) (page : ℕ) (allows : Bool) (config : Config)
+-- if that is given; whose pages have so many at most; which takes others in their place, or does not; and where the
+-- attributes of a request stand instead of those that are stored, or not.
+pub record IsServedFrom (policies entities : Text) (url : Option Text) (page : ℕ) (allows wins : Bool) (config : Config)
     (h : History) : Type 0 where
   pub service : Decisions Loaded
   pub last : Decisions Loaded
   pub metadata : option_map string_bytes service.metadata ≡ option_map metadata_text url
   pub page_is : service.page ≡ page
   pub reload_is : service.allows_reload ≡ allows
-  pub answered : AreAnswered (both_texts policies entities) service h.calls last
+  pub answered : AreAnswered (both_texts policies entities wins) service h.calls last
   pub sent : ∥ IsServed config h ∥₁
 
 -- ---- how it ends
@@ -47,9 +48,9 @@ IfServed Is (Err (stopped.Broken e)) = (h : History) × Is h
 -- ---- lines
 
 -- each line is answered as the policies and the entities decide that these texts say, and nothing else is written
-pub record AreAnsweredFrom (policies entities : Text) (reader writer last : Known) : Type 0 where
+pub record AreAnsweredFrom (policies entities : Text) (wins : Bool) (reader writer last : Known) : Type 0 where
   pub loaded : Loaded
-  pub is_of : IsLoadedOf (both_texts policies entities) loaded
+  pub is_of : IsLoadedOf (both_texts policies entities wins) loaded
   pub all : AreAllAnswered (IsAuthorized (engine_of loaded)) reader writer last
 
 -- if nothing was started, this is so of the reason

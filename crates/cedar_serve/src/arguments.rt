@@ -20,6 +20,8 @@ pub(crate) struct Options<'a> {
     pub(crate) is_lines: bool,
     /// Whether requests may put other policies and entities in place of these.
     pub(crate) allows_reload: bool,
+    /// Whether the attributes of a request stand instead of those that are stored.
+    pub(crate) request_wins: bool,
     /// How many bytes the body of a request may have, if that is said.
     pub(crate) max_body: Option<usize>,
 }
@@ -29,6 +31,8 @@ pub(crate) fn command<'a>(alloc: Global) -> Result<Command<'a>, AllocError> {
     let url = "Where the service is, as https://pdp.example.com, for AuthZEN's metadata";
     let page_size = "How many a page of a search has at most; left out, 100";
     let allow_reload = "Takes PUT /v1/policies and PUT /v1/entities from whoever is connected";
+    let wins =
+        "Takes a request's own attributes instead of those that are stored, where both have one";
     let max_body = "How many bytes a body may have; left out, 1,048,576";
     Command::new(alloc, "cedar_serve")
         .bin_name("cedar_serve")?
@@ -40,6 +44,7 @@ pub(crate) fn command<'a>(alloc: Global) -> Result<Command<'a>, AllocError> {
             1, 1_000_000,
         )))?
         .arg(flag(alloc, "allow-reload", allow_reload))?
+        .arg(flag(alloc, "request-attributes-win", wins))?
         .arg(lines(alloc)?)?
         .arg(option(alloc, "max-body", "BYTES", max_body).value_parser(ValueParser::Unsigned(
             0,
@@ -63,6 +68,7 @@ fn lines<'a>(alloc: Global) -> Result<Arg<'a>, AllocError> {
         .conflicts_with("url")?
         .conflicts_with("page-size")?
         .conflicts_with("allow-reload")?
+        .conflicts_with("request-attributes-win")?
         .conflicts_with("max-body")
 }
 
@@ -88,6 +94,7 @@ pub(crate) fn options_of<'a>(matches: &ArgMatches<'a>) -> Options<'a> {
         page_size: matches.get_one::<usize>("page-size"),
         is_lines: matches.get_flag("lines"),
         allows_reload: matches.get_flag("allow-reload"),
+        request_wins: matches.get_flag("request-attributes-win"),
         max_body: matches.get_one::<usize>("max-body"),
     }
 }

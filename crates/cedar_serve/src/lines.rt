@@ -23,13 +23,13 @@ pub fn answer_texts<R: Read + Drop, W: Write>(
     reader: &mut BufReader<R, Global>,
     writer: &mut W,
 ) -> Result<(), Stopped>
-    ensures answered { OnOk result (AreAnsweredFrom texts.entry.policies.now texts.entry.entities.now
+    ensures answered { OnOk result (AreAnsweredFrom texts.entry.policies.now texts.entry.entities.now texts.entry.request_wins
         (reader_remaining R.remaining reader.old) (W.contents writer.old) (W.contents writer.new)) }
     ensures refused { IfUnstarted (IsNotStarted texts.entry.policies.now texts.entry.entities.now) result }
     ensures unread { IfUnstarted (λ e. reader.new ≡ reader.old) result }
     ensures unwritten { IfUnstarted (λ e. writer.new ≡ writer.old) result }
 {
-    match Loaded::of_texts(alloc, texts.policies, texts.entities) {
+    match Loaded::of_texts(alloc, texts.policies, texts.entities, texts.request_wins) {
         Ok(loaded) => {
             let answered = answer_with(alloc, &loaded, reader, writer);
             drop(loaded);

@@ -126,6 +126,7 @@ fn serve_files<R: Files + Input + AllocGlobal + Print + RandomSource>(
         url: options.url,
         page: options.page_size.unwrap_or(PAGE_SIZE),
         allows_reload: options.allows_reload,
+        request_wins: options.request_wins,
     };
     let ended = if options.is_lines {
         answer_host(rt, texts)

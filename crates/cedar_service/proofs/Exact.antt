@@ -31,7 +31,7 @@ none_asks ask = record {
 module _ (calls : ReadPoliciesCallKnown) (ask : AskNothing) (agree : AgreesWithFunctions standard_answers standard_calls) where
   pub exactly : (k : Knowledge) (policies entities : Text) (e : Engine)
       → IsEngineWith k standard_extensions standard_calls policies entities e → AnswersExactly e
-  exactly k policies entities e has r a is nothing sigma =
+  exactly k policies entities e has s r a is nothing sigma =
       let known = all_known calls (none_asks ask) (read_policies e) has.policies_are in
       is.by_meaning nothing standard_answers agree known sigma
       (is.within_limit nothing standard_answers agree known has.low.policies)

@@ -13,3 +13,6 @@ mod Named
 mod Due
 mod Started
 mod Untold
+mod Over
+mod Without
+mod Laid

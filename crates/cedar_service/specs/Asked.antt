@@ -1,6 +1,7 @@
 -- Which request an evaluation asks, and why it asks none.
-use Rattle.std.specs.Prelude.{◌≡◌, ⊤, ℕ, Bool, true, false, Option, Some, None, Ok, Err, codes}
-use Rattle.json.specs.Json.{Json, object, member, no_members, string}
+use Rattle.std.specs.Prelude.{IsSomeAnd, ◌≡◌, ⊤, ℕ, Bool, true, false, Option, Some, None, Ok, Err, codes}
+use Rattle.json.specs.Find.{get}
+use Rattle.json.specs.Json.{Json, object, member, no_members, string, document}
 use Rattle.cedar_model.specs.Terms.{Text, EntityName, Term}
 use Rattle.cedar_model.specs.Values.{no_represented_at}
 use Rattle.cedar_model.specs.World as world
@@ -22,11 +23,9 @@ use Rattle.cedar_json_reader.specs.SaidContexts.{context_said, IsContextOf}
 use Rattle.cedar_json_reader.specs.SaidRequests.{IsRequestOf, IsRequestRefusal}
 use Rattle.cedar_json_reader.specs.declared.errors.JsonError.{JsonError}
 use Rattle.cedar_endpoints.specs.Asked.{Evaluation, Named}
+use Rattle.cedar_service.specs.Documents.{IsTextFor, without_entities}
 use Rattle.cedar_service.specs.Faults.{IsFault, IsFaultBelow, IsOfJson}
-
--- how many levels a text may have
-abbrev pub levels : ℕ
-levels = 4000
+pub use Rattle.cedar_service.specs.Levels.{levels}
 
 -- ---- the request of an evaluation
 
@@ -90,16 +89,36 @@ pub data IsUnasked (X : world.Extensions) (calls : StoredCalls) (q : Evaluation)
 
 -- ---- Cedar's own request
 
--- the request that the text says
-abbrev pub IsSaid : world.Extensions → StoredCalls → Text → Request → Type 0
-IsSaid X calls text r = SaysSo text (λ j. IsRequestOf X calls levels j r)
+-- the JSON of a request, but for the entities that it brings, if it brings some
+abbrev pub request_in : Option Json → Json → Json
+request_in None j = j
+request_in (Some es) j = without_entities j
+
+abbrev pub request_json : Json → Json
+request_json j = request_in (get (codes "entities") j) j
+
+-- the second text is that of the first, but for the entities that it brings
+abbrev pub IsRequestText : Text → Text → Type 0
+IsRequestText text t = IsSomeAnd (document text) (λ j. IsTextFor (request_json j) t)
+
+-- the request that a text says which brings no entities
+abbrev pub IsSaidBy : world.Extensions → StoredCalls → Text → Request → Type 0
+IsSaidBy X calls text r = SaysSo text (λ j. IsRequestOf X calls levels j r)
 
 -- the text says none, as the reader's error tells
-pub record IsUnsaid (X : world.Extensions) (calls : StoredCalls) (text : Text) (t : Text) : Type 0 where
+pub record IsUnsaidBy (X : world.Extensions) (calls : StoredCalls) (text : Text) (t : Text) : Type 0 where
   pub error : JsonError
   pub of_json : IsOfJson error
   pub refused : IsTextError text (λ j e. IsRequestRefusal X calls levels j e) error
   pub told : IsFaultBelow (codes "$") t
+
+-- the request that the text says, beside the entities that it brings
+abbrev pub IsSaid : world.Extensions → StoredCalls → Text → Request → Type 0
+IsSaid X calls text r = (t : Text) × IsRequestText text t × IsSaidBy X calls t r
+
+-- it says none
+abbrev pub IsUnsaid : world.Extensions → StoredCalls → Text → Text → Type 0
+IsUnsaid X calls text s = (t : Text) × IsRequestText text t × IsUnsaidBy X calls t s
 
 -- ---- contexts in which something is unknown
 
@@ -127,3 +146,10 @@ uid_json n =
     object (member (codes "__entity")
     (object (member (codes "type") (string n.type_name) (member (codes "id") (string n.id) no_members)))
     no_members)
+
+-- the request that the JSON says beside entities, or why it says none
+abbrev pub IsSaidBeside : world.Extensions → StoredCalls → Json → Request → Type 0
+IsSaidBeside X calls j r = (t : Text) × IsTextFor (without_entities j) t × IsSaidBy X calls t r
+
+abbrev pub IsUnsaidBeside : world.Extensions → StoredCalls → Json → Text → Type 0
+IsUnsaidBeside X calls j s = (t : Text) × IsTextFor (without_entities j) t × IsUnsaidBy X calls t s

@@ -29,8 +29,10 @@ use Rattle.cedar_endpoints.specs.declared.replies.Outcome.TheVariants as outcome
 use Rattle.cedar_service.specs.declared.engine.Engine.{Engine}
 use Rattle.cedar_service.specs.declared.faults.Refusal.{Refusal}
 use Rattle.cedar_service.specs.declared.faults.Refusal.TheVariants as refusals
+use Rattle.cedar_service.specs.Brought.{IsBroughtBy, IsUnbroughtBy}
 use Rattle.cedar_service.specs.Engines.{policies_of, entities_of}
 use Rattle.cedar_service.specs.Faults.{IsFault}
+use Rattle.cedar_service.specs.Properties.{IsAskedOver, AreUnlaid}
 use Rattle.cedar_service.specs.Standard.{standard_extensions, standard_calls}
 use Rattle.cedar_service.specs.Asked.{IsAsked, IsUnasked, IsSaid, IsUnsaid, has_known_context}
 
@@ -82,31 +84,46 @@ IsRefusalOf refusals.Memory o = ⊥
 IsRefusalOf (refusals.Told t) (outcomes.Decided b context) = ⊥
 IsRefusalOf (refusals.Told t) (outcomes.Refused error) = error ≡ t
 
--- what is answered to a request: a response of the policies over the entities; or where an unknown stands in its
--- context, that
-pub data IsAnswered (X : world.Extensions) (calls : StoredCalls) (e : Engine) (r : Request) (o : Outcome)
+-- what is answered to a request: a response of the policies over the store; or where an unknown stands in its context,
+-- that
+pub data IsAnswered (X : world.Extensions) (calls : StoredCalls) (e : Engine) (s : Entities) (r : Request) (o : Outcome)
     : Type 0 where
   answered : (a : Response) → has_known_context r ≡ true
-      → IsResponseTo X calls (policies_of e) (entities_of e) r (response_view a) → IsOutcomeOf a o
-      → IsAnswered X calls e r o
+      → IsResponseTo X calls (policies_of e) s r (response_view a) → IsOutcomeOf a o
+      → IsAnswered X calls e s r o
   unknown : has_known_context r ≡ false
-      → IsRefusedAs (IsFault (codes "$.context") (codes "an unknown stands in it")) o → IsAnswered X calls e r o
+      → IsRefusedAs (IsFault (codes "$.context") (codes "an unknown stands in it")) o → IsAnswered X calls e s r o
 
--- what is decided: the answer to the request that is asked; or why none is
-pub data IsDecidedWith (X : world.Extensions) (calls : StoredCalls) (e : Engine) (q : Evaluation) (o : Outcome)
-    : Type 0 where
-  asked : (r : Request) → IsAsked X calls q r → IsAnswered X calls e r o → IsDecidedWith X calls e q o
-  not_asked : IsRefusedAs (IsUnasked X calls q) o → IsDecidedWith X calls e q o
+-- what is decided for the request that is asked: the answer to it over the entities with the properties of the
+-- evaluation; or why these are refused
+pub data IsDecidedOver (X : world.Extensions) (calls : StoredCalls) (e : Engine) (wins : Bool) (q : Evaluation)
+    (r : Request) (o : Outcome) : Type 0 where
+  laid : (s : Entities) → IsAskedOver X calls wins (entities_of e) q s → IsAnswered X calls e s r o
+      → IsDecidedOver X calls e wins q r o
+  not_laid : IsRefusedAs (AreUnlaid X calls wins (entities_of e) q) o → IsDecidedOver X calls e wins q r o
 
--- the same of the request that a text says
+-- what is decided: that, for the request that is asked; or why none is
+pub data IsDecidedWith (X : world.Extensions) (calls : StoredCalls) (e : Engine) (wins : Bool) (q : Evaluation)
+    (o : Outcome) : Type 0 where
+  asked : (r : Request) → IsAsked X calls q r → IsDecidedOver X calls e wins q r o → IsDecidedWith X calls e wins q o
+  not_asked : IsRefusedAs (IsUnasked X calls q) o → IsDecidedWith X calls e wins q o
+
+-- over this store, what is decided for the request that a text says
+pub data IsAuthorizedOver (X : world.Extensions) (calls : StoredCalls) (e : Engine) (s : Entities) (text : Text)
+    (o : Outcome) : Type 0 where
+  said : (r : Request) → IsSaid X calls text r → IsAnswered X calls e s r o → IsAuthorizedOver X calls e s text o
+  not_said : IsRefusedAs (IsUnsaid X calls text) o → IsAuthorizedOver X calls e s text o
+
+-- that, over the entities and those that the text brings; or why it brings none
 pub data IsAuthorizedWith (X : world.Extensions) (calls : StoredCalls) (e : Engine) (text : Text) (o : Outcome)
     : Type 0 where
-  said : (r : Request) → IsSaid X calls text r → IsAnswered X calls e r o → IsAuthorizedWith X calls e text o
-  not_said : IsRefusedAs (IsUnsaid X calls text) o → IsAuthorizedWith X calls e text o
+  brought : (s : Entities) → IsBroughtBy X calls (entities_of e) text s → IsAuthorizedOver X calls e s text o
+      → IsAuthorizedWith X calls e text o
+  not_brought : IsRefusedAs (IsUnbroughtBy X calls (entities_of e) text) o → IsAuthorizedWith X calls e text o
 
 -- ---- with the standard extensions
 
-abbrev pub IsDecided : Engine → Evaluation → Outcome → Type 0
+abbrev pub IsDecided : Engine → Bool → Evaluation → Outcome → Type 0
 IsDecided = IsDecidedWith standard_extensions standard_calls
 
 abbrev pub IsAuthorized : Engine → Text → Outcome → Type 0

@@ -4,6 +4,7 @@ use Rattle.cedar_model.specs.Terms.{Text, EntityName}
 use Rattle.cedar_names.specs.Names.{uid_name}
 use Rattle.cedar_layers.specs.declared.policies.entities.Entities.{Entities}
 use Rattle.cedar_layers.specs.declared.policies.policy_set.PolicySet.{PolicySet}
+use Rattle.cedar_overlay.specs.Bases.{base_entities}
 use Rattle.cedar_text_parser.specs.declared.policies.ParsedPolicies.{ParsedPolicies}
 use Rattle.cedar_service.specs.declared.engine.Engine.{Engine}
 
@@ -17,7 +18,7 @@ policies_of e = (read_policies e).policies
 
 -- the entities, each with all its ancestors
 abbrev pub entities_of : Engine → Entities
-entities_of e = e.entities
+entities_of e = base_entities e.base
 
 -- the candidates of its searches
 abbrev pub candidates_of : Engine → List EntityName

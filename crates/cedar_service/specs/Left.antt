@@ -33,6 +33,7 @@ use Rattle.cedar_endpoints.specs.declared.replies.Remainder.TheVariants as remai
 use Rattle.cedar_service.specs.declared.engine.Engine.{Engine}
 use Rattle.cedar_service.specs.declared.faults.Refusal.{Refusal}
 use Rattle.cedar_service.specs.declared.faults.Refusal.TheVariants as refusals
+use Rattle.cedar_service.specs.Brought.{IsBroughtBy, IsUnbroughtBy}
 use Rattle.cedar_service.specs.Engines.{policies_of, entities_of}
 use Rattle.cedar_service.specs.Faults.{IsFault, IsFaultBelow}
 use Rattle.cedar_service.specs.Standard.{standard_extensions, standard_calls}
@@ -139,17 +140,24 @@ IsUntoldFor refusals.Memory o = ⊥
 IsUntoldFor (refusals.Told t) (remainders.Told response) = ⊥
 IsUntoldFor (refusals.Told t) (remainders.Refused error) = error ≡ t
 
--- what is left for a request
-abbrev pub LeavesFor : world.Extensions → StoredCalls → Engine → Request → Remainder → Type 0
-LeavesFor X calls e r o =
-    (a : PartialResponse) × IsPartialTo X calls (policies_of e) (entities_of e) r a × IsRemainderOf a o
+-- what is left for a request over a store
+abbrev pub LeavesFor : world.Extensions → StoredCalls → Engine → Entities → Request → Remainder → Type 0
+LeavesFor X calls e s r o =
+    (a : PartialResponse) × IsPartialTo X calls (policies_of e) s r a × IsRemainderOf a o
 
--- what is left for the request that is asked; or why none is
-pub data IsLeftWith (X : world.Extensions) (calls : StoredCalls) (e : Engine) (q : Partial) (o : Remainder)
-    : Type 0 where
-  left : (r : Request) → IsAskedPartly X calls q r → LeavesFor X calls e r o → IsLeftWith X calls e q o
-  not_asked_partly : IsUntoldAs (IsUnaskedPartly X calls q) o → IsLeftWith X calls e q o
+-- what is left for a request over the entities and those that the text brings; or why it brings none
+pub data IsLeftOver (X : world.Extensions) (calls : StoredCalls) (e : Engine) (text : Text) (r : Request)
+    (o : Remainder) : Type 0 where
+  brought : (s : Entities) → IsBroughtBy X calls (entities_of e) text s → LeavesFor X calls e s r o
+      → IsLeftOver X calls e text r o
+  not_brought : IsUntoldAs (IsUnbroughtBy X calls (entities_of e) text) o → IsLeftOver X calls e text r o
+
+-- that, for the request that is asked; or why none is
+pub data IsLeftWith (X : world.Extensions) (calls : StoredCalls) (e : Engine) (q : Partial) (text : Text)
+    (o : Remainder) : Type 0 where
+  left : (r : Request) → IsAskedPartly X calls q r → IsLeftOver X calls e text r o → IsLeftWith X calls e q text o
+  not_asked_partly : IsUntoldAs (IsUnaskedPartly X calls q) o → IsLeftWith X calls e q text o
 
 -- with the standard extensions
-abbrev pub IsLeft : Engine → Partial → Remainder → Type 0
+abbrev pub IsLeft : Engine → Partial → Text → Remainder → Type 0
 IsLeft = IsLeftWith standard_extensions standard_calls

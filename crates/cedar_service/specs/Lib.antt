@@ -1,6 +1,10 @@
 pub mod Standard
 pub mod Faults
+pub mod Levels
+pub mod Documents
 pub mod Asked
+pub mod Brought
+pub mod Properties
 pub mod Engines
 pub mod Candidates
 pub mod Versions

@@ -1,5 +1,5 @@
 -- Engines with the texts that they are made of, and what takes the place of one.
-use Rattle.std.specs.Prelude.{◌≡◌, ⊤, codes, string_bytes}
+use Rattle.std.specs.Prelude.{◌≡◌, ⊤, Bool, codes, string_bytes}
 use Rattle.cedar_model.specs.Terms.{Text}
 use Rattle.cedar_endpoints.specs.declared.replies.NotRemade.{NotRemade}
 use Rattle.cedar_endpoints.specs.declared.replies.NotRemade.TheVariants as unmade
@@ -15,16 +15,18 @@ use Rattle.cedar_service.specs.declared.loaded.Texts as rust_texts
 use Rattle.cedar_service.specs.Faults.{IsFaultBelow}
 use Rattle.cedar_service.specs.Started.{IsEngineOf, IsNotStarted}
 
--- the policies, in Cedar's text, and the entities, in Cedar's JSON
+-- the policies, in Cedar's text, and the entities, in Cedar's JSON; and whether the attributes of a request stand instead
+-- of those that are stored
 pub record Texts : Type 0 where
   pub policies : Text
   pub entities : Text
+  pub request_wins : Bool
 
-abbrev pub both_texts : Text → Text → Texts
-both_texts policies entities = record { policies = policies; entities = entities }
+abbrev pub both_texts : Text → Text → Bool → Texts
+both_texts policies entities wins = record { policies = policies; entities = entities; request_wins = wins }
 
 abbrev pub texts_view : rust_texts.Texts → Texts
-texts_view t = both_texts (string_bytes t.policies) (string_bytes t.entities)
+texts_view t = both_texts (string_bytes t.policies) (string_bytes t.entities) t.request_wins
 
 -- what decides
 abbrev pub engine_of : Loaded → Engine
@@ -34,15 +36,19 @@ engine_of l = l.engine
 abbrev pub texts_of : Loaded → Texts
 texts_of l = texts_view l.texts
 
+-- whether the attributes of a request stand instead of those that are stored
+abbrev pub request_wins : Loaded → Bool
+request_wins l = l.texts.request_wins
+
 -- it has these texts, and the engine of them
 pub record IsLoadedOf (ts : Texts) (l : Loaded) : Type 0 where
   pub engine : IsEngineOf ts.policies ts.entities (engine_of l)
   pub texts : texts_of l ≡ ts
 
--- the texts, with this one in place of the policies or of the entities
+-- the same, with this text in place of the policies or of the entities
 abbrev pub replaced_with : Replaced → Text → Texts → Texts
-replaced_with parts.Policies t ts = both_texts t ts.entities
-replaced_with parts.Entities t ts = both_texts ts.policies t
+replaced_with parts.Policies t ts = both_texts t ts.entities ts.request_wins
+replaced_with parts.Entities t ts = both_texts ts.policies t ts.request_wins
 
 -- what takes its place has the engine of these
 abbrev pub Remakes : Loaded → Replaced → Text → Loaded → Type 0

@@ -1,5 +1,5 @@
 -- What a search of an engine finds.
-use Rattle.std.specs.Prelude.{◌≡◌, ℕ, List, [], true, false, Option, Some, map, codes, string_bytes}
+use Rattle.std.specs.Prelude.{◌≡◌, ℕ, Bool, List, [], true, false, Option, Some, map, codes, string_bytes}
 use Rattle.json.specs.Json.{Json, object, member, no_members, string}
 use Rattle.json.specs.Print.{print}
 use Rattle.json.specs.Tree.{json_tokens}
@@ -7,6 +7,7 @@ use Rattle.cedar_model.specs.Terms.{Text, EntityName}
 use Rattle.cedar_model.specs.World as world
 use Rattle.cedar_model.specs.Rules.{StoredCalls}
 use Rattle.cedar_model.specs.Settings.{Entry, unknown_entry, RequestPart}
+use Rattle.cedar_layers.specs.declared.policies.entities.Entities.{Entities}
 use Rattle.cedar_layers.specs.Stores.{store_view}
 use Rattle.cedar_requests.specs.declared.request.Request.{Request}
 use Rattle.cedar_requests.specs.Requests.{request_view, entry_type}
@@ -15,7 +16,7 @@ use Rattle.cedar_search.specs.declared.searches.Part.{Part}
 use Rattle.cedar_search.specs.declared.searches.Part.TheVariants as parts
 use Rattle.cedar_search.specs.Questions.{Question, sought}
 use Rattle.cedar_search.specs.Pages.{Page, IsPage}
-use Rattle.cedar_endpoints.specs.Asked.{Named, Evaluation}
+use Rattle.cedar_endpoints.specs.Asked.{Named, Properties, Evaluation}
 use Rattle.cedar_endpoints.specs.Searches.{Search, Parts, a_subject, an_action, a_resource}
 use Rattle.cedar_endpoints.specs.declared.replies.Finding.{Finding}
 use Rattle.cedar_endpoints.specs.declared.replies.Finding.TheVariants as findings
@@ -24,6 +25,7 @@ use Rattle.cedar_service.specs.declared.faults.Refusal.{Refusal}
 use Rattle.cedar_service.specs.declared.faults.Refusal.TheVariants as refusals
 use Rattle.cedar_service.specs.Engines.{policies_of, entities_of, candidates_of}
 use Rattle.cedar_service.specs.Faults.{IsFault}
+use Rattle.cedar_service.specs.Properties.{IsAskedOver, AreUnlaid}
 use Rattle.cedar_service.specs.Standard.{standard_extensions, standard_calls}
 use Rattle.cedar_service.specs.Asked.{IsAsked, IsUnasked, has_known_context}
 use Rattle.cedar_service.specs.Decided.{configuration_of}
@@ -41,13 +43,15 @@ abbrev pub sample_named : Text → Named
 sample_named t = record { type_name = t; id = [] }
 
 -- the evaluation, with an empty id or name in the part that is searched for
-abbrev pub sample_with : Parts → Option Json → Evaluation
-sample_with (a_subject t a r) c = record { subject = sample_named t; action = a; resource = r; context = c }
-sample_with (an_action s r) c = record { subject = s; action = []; resource = r; context = c }
-sample_with (a_resource s a t) c = record { subject = s; action = a; resource = sample_named t; context = c }
+abbrev pub sample_with : Parts → Option Json → Properties → Evaluation
+sample_with (a_subject t a r) c ps =
+    record { subject = sample_named t; action = a; resource = r; context = c; properties = ps }
+sample_with (an_action s r) c ps = record { subject = s; action = []; resource = r; context = c; properties = ps }
+sample_with (a_resource s a t) c ps =
+    record { subject = s; action = a; resource = sample_named t; context = c; properties = ps }
 
 abbrev pub sample : Search → Evaluation
-sample q = sample_with q.parts q.context
+sample q = sample_with q.parts q.context q.properties
 
 -- of an entry the type alone is left
 abbrev pub type_alone : Entry → Entry
@@ -63,13 +67,13 @@ with_entry parts.Resource n r = record r { resource_entry = n }
 abbrev pub opened : Part → RequestPart → RequestPart
 opened part r = with_entry part (type_alone (sought part r)) r
 
--- that part of that request is searched for, over the engine's entities and by its policies
-abbrev pub question_of : world.Extensions → StoredCalls → Engine → Part → RequestPart → Question
-question_of X calls e part r = record {
+-- that part of that request is searched for, over the store and by the engine's policies
+abbrev pub question_of : world.Extensions → StoredCalls → Engine → Entities → Part → RequestPart → Question
+question_of X calls e s part r = record {
   configuration = configuration_of X calls;
   part = part;
   request = r;
-  store = store_view (entities_of e);
+  store = store_view s;
   policies = considered (policies_of e);
 }
 
@@ -114,22 +118,32 @@ IsListed q us after most f = (p : Page) × IsPage q us after most p × IsFinding
 
 -- what is found for a request of which a part is searched for: the page of those candidates with which it is allowed;
 -- or where an unknown stands in its context, that
-pub data IsPageFor (X : world.Extensions) (calls : StoredCalls) (e : Engine) (part : Part) (r : Request)
+pub data IsPageFor (X : world.Extensions) (calls : StoredCalls) (e : Engine) (s : Entities) (part : Part) (r : Request)
     (after most : ℕ) (f : Finding) : Type 0 where
   listed : has_known_context r ≡ true
-      → IsListed (question_of X calls e part (opened part (request_view r))) (candidates_of e) after most f
-      → IsPageFor X calls e part r after most f
+      → IsListed (question_of X calls e s part (opened part (request_view r))) (candidates_of e) after most f
+      → IsPageFor X calls e s part r after most f
   not_known : has_known_context r ≡ false
       → IsUnfoundAs (IsFault (codes "$.context") (codes "an unknown stands in it")) f
-      → IsPageFor X calls e part r after most f
+      → IsPageFor X calls e s part r after most f
 
--- what is found: the page for the request that is asked; or why none is
-pub data IsFoundWith (X : world.Extensions) (calls : StoredCalls) (e : Engine) (q : Search) (after most : ℕ)
-    (f : Finding) : Type 0 where
-  searched : (r : Request) → IsAsked X calls (sample q) r → IsPageFor X calls e (part_of q.parts) r after most f
-      → IsFoundWith X calls e q after most f
-  not_searched : IsUnfoundAs (IsUnasked X calls (sample q)) f → IsFoundWith X calls e q after most f
+-- what is found for the request that is asked: the page for it over the entities with the properties of the parts that
+-- are known; or why these are refused
+pub data IsFoundOver (X : world.Extensions) (calls : StoredCalls) (e : Engine) (wins : Bool) (q : Evaluation)
+    (part : Part) (r : Request) (after most : ℕ) (f : Finding) : Type 0 where
+  laid : (s : Entities) → IsAskedOver X calls wins (entities_of e) q s → IsPageFor X calls e s part r after most f
+      → IsFoundOver X calls e wins q part r after most f
+  not_laid : IsUnfoundAs (AreUnlaid X calls wins (entities_of e) q) f
+      → IsFoundOver X calls e wins q part r after most f
+
+-- what is found: that, for the request that is asked; or why none is
+pub data IsFoundWith (X : world.Extensions) (calls : StoredCalls) (e : Engine) (wins : Bool) (q : Search)
+    (after most : ℕ) (f : Finding) : Type 0 where
+  searched : (r : Request) → IsAsked X calls (sample q) r
+      → IsFoundOver X calls e wins (sample q) (part_of q.parts) r after most f
+      → IsFoundWith X calls e wins q after most f
+  not_searched : IsUnfoundAs (IsUnasked X calls (sample q)) f → IsFoundWith X calls e wins q after most f
 
 -- with the standard extensions
-abbrev pub IsFound : Engine → Search → ℕ → ℕ → Finding → Type 0
+abbrev pub IsFound : Engine → Bool → Search → ℕ → ℕ → Finding → Type 0
 IsFound = IsFoundWith standard_extensions standard_calls

@@ -76,12 +76,12 @@ IsExact ps s r a =
     → IsExactResponse model.skip standard_extensions standard_answers
     (own_world (setting_of standard_extensions r s) sigma) (considered ps) a
 
--- each response is exact
+-- each response is exact, over any store
 abbrev pub AnswersExactly : Engine → Type 0
 AnswersExactly e =
-    (r : Request) (a : Authorized)
-    → IsResponseTo standard_extensions standard_calls (policies_of e) (entities_of e) r a
-    → IsExact (policies_of e) (entities_of e) r a
+    (s : Entities) (r : Request) (a : Authorized)
+    → IsResponseTo standard_extensions standard_calls (policies_of e) s r a
+    → IsExact (policies_of e) s r a
 
 -- the engine of two texts, with the standard extensions: it has what they say, and each response of it is exact
 pub record IsEngineOf (policies entities : Text) (e : Engine) : Type 0 where

@@ -21,8 +21,8 @@ use std::alloc::Global;
 /// How many levels what is read may have: each operator, call, set or record is one more than its highest part.
 pub(crate) const LEVELS: usize = 4000;
 
-// Where the context stands.
-const CONTEXT: &str = "$.context";
+/// Where the context stands.
+pub(crate) const CONTEXT: &str = "$.context";
 
 /// The context that the JSON says; where none is given, one without attributes. Refuses what says no record, and what
 /// does not evaluate.
@@ -38,31 +38,32 @@ pub(crate) fn context_of(
         (option_map (λ v. value_view v.now) context.entry))) }
 {
     match context {
-        Some(value) => context_in(alloc, value, extensions),
+        Some(value) => context_in(alloc, value, CONTEXT, extensions),
         None => Ok(Context::empty(alloc)),
     }
 }
 
-/// The same of the JSON that is given.
+/// The same of the JSON that is given, which stands at this path.
 pub(crate) fn context_in(
     alloc: Global,
     value: &Value<'_>,
+    path: &str,
     extensions: &Extensions<'_>,
 ) -> Result<Context, Refusal>
     ensures said { IfOk result (IsContextOf (extensions_view extensions.now) (calls_of extensions.now) levels
         (context_said (value_view value.now))) }
     ensures refused { IfErr result (IsToldAs (λ t.
         IsNoContext (extensions_view extensions.now) (calls_of extensions.now) (value_view value.now)
-        × IsFaultBelow (codes "$.context") t)) }
+        × IsFaultBelow path.now t)) }
 {
     match restricted_expr_from_json_value(alloc, value) {
         Ok(expr) => {
-            let context = evaluate(alloc, &expr, extensions);
+            let context = evaluate(alloc, &expr, path, extensions);
             drop(expr);
             context
         }
         Err(error) => {
-            let refusal = refuse_json(alloc, CONTEXT, &error);
+            let refusal = refuse_json(alloc, path, &error);
             drop(error);
             Err(refusal)
         }
@@ -72,18 +73,19 @@ pub(crate) fn context_in(
 fn evaluate(
     alloc: Global,
     expr: &RestrictedExpr,
+    path: &str,
     extensions: &Extensions<'_>,
 ) -> Result<Context, Refusal>
     ensures made { IfOk result (λ c. IsCreated (extensions_view extensions.now) (calls_of extensions.now) levels
         (restricted_term expr.now) (Ok c)) }
     ensures refused { IfErr result (IsToldAs (λ t.
         IsNoContextOf (extensions_view extensions.now) (calls_of extensions.now) (restricted_term expr.now)
-        × IsFaultBelow (codes "$.context") t)) }
+        × IsFaultBelow path.now t)) }
 {
     match Context::from_expr(alloc, expr.as_borrowed(), extensions, LEVELS) {
         Ok(context) => Ok(context),
         Err(error) => {
-            let refusal = refuse_creation(alloc, &error);
+            let refusal = refuse_creation(alloc, path, &error);
             drop(error);
             Err(refusal)
         }
@@ -91,15 +93,15 @@ fn evaluate(
 }
 
 #[cold]
-fn refuse_creation(alloc: Global, error: &ContextCreationError) -> Refusal
+fn refuse_creation(alloc: Global, path: &str, error: &ContextCreationError) -> Refusal
     ensures creation { IsToldAs (λ _. IsOfCreation error.now) result }
-    ensures fault { IsToldAs (IsFaultBelow (codes "$.context")) result }
+    ensures fault { IsToldAs (IsFaultBelow path.now) result }
 {
     match error {
-        ContextCreationError::Evaluation(error) => refuse_evaluation(alloc, CONTEXT, error),
-        ContextCreationError::NotARecord(_) => refuse_below(alloc, CONTEXT, "not an object"),
+        ContextCreationError::Evaluation(error) => refuse_evaluation(alloc, path, error),
+        ContextCreationError::NotARecord(_) => refuse_below(alloc, path, "not an object"),
         ContextCreationError::ExpressionConstruction(_) => {
-            refuse_below(alloc, CONTEXT, "not an object")
+            refuse_below(alloc, path, "not an object")
         }
         ContextCreationError::Memory(_) => Refusal::Memory,
     }

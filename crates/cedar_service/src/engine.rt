@@ -13,6 +13,7 @@ use cedar_hierarchy::{ClosureError, close_hierarchy};
 use cedar_json_reader::{JsonError, entities_from_json_str};
 use cedar_layers::policies::{Entities, Entity, PolicySet};
 use cedar_names::{EntityUID, FirstRest};
+use cedar_overlay::Base;
 use cedar_scope_actions::candidates;
 use cedar_standard_functions::laws::functions_are_computed;
 use cedar_text_lexer::errors::ReadError;
@@ -24,7 +25,7 @@ use std::alloc::{AllocError, Global};
 #[derive(Drop)]
 pub struct Engine {
     pub(crate) policies: ParsedPolicies,
-    pub(crate) entities: Entities,
+    pub(crate) base: Base,
     pub(crate) candidates: Vec<EntityUID>,
     pub(crate) version: String,
 }
@@ -70,13 +71,13 @@ impl Engine {
     pub fn entities(&self) -> &Entities
         ensures { result.now ≡ entities_of self.now }
     {
-        &self.entities
+        self.base.entities()
     }
 }
 
 ghost use Rattle.cedar_service.specs.Asked.{levels};
 ghost use Rattle.cedar_service.specs.Candidates.{AreCandidates};
-ghost use Rattle.cedar_service.specs.Engines.{candidates_of, version_of};
+ghost use Rattle.cedar_service.specs.Engines.{candidates_of, entities_of, version_of};
 ghost use Rattle.cedar_service.specs.Versions.{version_text};
 ghost use Rattle.cedar_service.specs.Started.{IsEngineWith, IsFailure, IsStoreSaid, IsClosedStore};
 ghost use Rattle.cedar_service.specs.Started.{IsStoreFailure, IsPoliciesFailure, IsCyclicAmong, IsUnreadAs, IsUnclosedAs};
@@ -108,8 +109,8 @@ fn with_store(
 ) -> Result<Engine, NotStarted>
     ensures policies { IfOk result (λ e. e.policies ≡ parsed) }
     ensures entities { IfOk result (λ e.
-        IsStoreSaid (extensions_view extensions.now) (calls_of extensions.now) entities.now e.entities) }
-    ensures candidates { IfOk result (λ e. AreCandidates e.policies.policies e.entities (candidates_of e)) }
+        IsStoreSaid (extensions_view extensions.now) (calls_of extensions.now) entities.now (entities_of e)) }
+    ensures candidates { IfOk result (λ e. AreCandidates e.policies.policies (entities_of e) (candidates_of e)) }
     ensures version { IfOk result (λ e. version_of e ≡ version_text policies.now entities.now) }
     ensures refused { IfErr result
         (IsStoreFailure (extensions_view extensions.now) (calls_of extensions.now) entities.now) }
@@ -132,8 +133,8 @@ fn with_candidates(
     store: Entities,
 ) -> Result<Engine, NotStarted>
     ensures policies { IfOk result (λ e. e.policies ≡ parsed) }
-    ensures entities { IfOk result (λ e. e.entities ≡ store) }
-    ensures candidates { IfOk result (λ e. AreCandidates e.policies.policies e.entities (candidates_of e)) }
+    ensures entities { IfOk result (λ e. entities_of e ≡ store) }
+    ensures candidates { IfOk result (λ e. AreCandidates e.policies.policies (entities_of e) (candidates_of e)) }
     ensures version { IfOk result (λ e. version_of e ≡ version_text policies.now entities.now) }
     ensures memory { IfErr result (λ f. f ≡ NotStarted.Memory) }
 {
@@ -156,22 +157,46 @@ fn with_version(
     candidates: Vec<EntityUID>,
 ) -> Result<Engine, NotStarted>
     ensures policies { IfOk result (λ e. e.policies ≡ parsed) }
-    ensures entities { IfOk result (λ e. e.entities ≡ store) }
+    ensures entities { IfOk result (λ e. entities_of e ≡ store) }
     ensures candidates { IfOk result (λ e. e.candidates ≡ candidates) }
     ensures version { IfOk result (λ e. version_of e ≡ version_text policies.now entities.now) }
     ensures memory { IfErr result (λ f. f ≡ NotStarted.Memory) }
 {
     match version_of(alloc, policies, entities) {
-        Ok(version) => Ok(Engine {
+        Ok(version) => with_base(alloc, parsed, store, candidates, version),
+        Err(AllocError) => {
+            drop(parsed);
+            drop(store);
+            drop(candidates);
+            Err(NotStarted::Memory)
+        }
+    }
+}
+
+fn with_base(
+    alloc: Global,
+    parsed: ParsedPolicies,
+    store: Entities,
+    candidates: Vec<EntityUID>,
+    version: String,
+) -> Result<Engine, NotStarted>
+    ensures policies { IfOk result (λ e. e.policies ≡ parsed) }
+    ensures entities { IfOk result (λ e. entities_of e ≡ store) }
+    ensures candidates { IfOk result (λ e. e.candidates ≡ candidates) }
+    ensures version { IfOk result (λ e. e.version ≡ version) }
+    ensures memory { IfErr result (λ f. f ≡ NotStarted.Memory) }
+{
+    match Base::of(alloc, store) {
+        Ok(base) => Ok(Engine {
             policies: parsed,
-            entities: store,
+            base,
             candidates,
             version,
         }),
         Err(AllocError) => {
             drop(parsed);
-            drop(store);
             drop(candidates);
+            drop(version);
             Err(NotStarted::Memory)
         }
     }

@@ -6,7 +6,8 @@ ghost use Rattle.cedar_json_writer.specs.Trees.{json_view, members_seen};
 ghost use Rattle.cedar_service.specs.Faults.{fault_json, fault_text, IsFault, IsFaultBelow, IsToldAs, IsOfJson};
 
 use cedar_errors::evaluator::err::EvaluationError;
-use cedar_json_reader::{JsonError, JsonPath, RefusalReason};
+use cedar_fallible::add_last;
+use cedar_json_reader::{JsonError, JsonPath, PathStep, RefusalReason};
 use cedar_json_writer::{JsonValue, put_member, text_to_json};
 use std::alloc::{AllocError, Global};
 use std::rc::RcStr;
@@ -74,6 +75,52 @@ pub(crate) fn refuse_evaluation(alloc: Global, path: &str, error: &EvaluationErr
         Ok(text) => Refusal::Told(text),
         Err(AllocError) => Refusal::Memory,
     }
+}
+
+/// The refusal of the member of this key of what stands at this path.
+#[cold]
+pub(crate) fn refuse_at_key(alloc: Global, path: &str, key: &RcStr, reason: &str) -> Refusal
+    ensures { IsToldAs (IsFaultBelow path.now) result }
+{
+    match key_step(key) {
+        Ok(step) => refuse_at_step(alloc, path, step, reason),
+        Err(AllocError) => Refusal::Memory,
+    }
+}
+
+/// The refusal of the element of this index of what stands at this path.
+#[cold]
+pub(crate) fn refuse_at_index(alloc: Global, path: &str, index: usize, reason: &str) -> Refusal
+    ensures { IsToldAs (IsFaultBelow path.now) result }
+{
+    refuse_at_step(alloc, path, PathStep::Index(index), reason)
+}
+
+fn key_step(key: &RcStr) -> Result<PathStep, AllocError> {
+    Ok(PathStep::Key(key.clone()?))
+}
+
+fn refuse_at_step(alloc: Global, path: &str, step: PathStep, reason: &str) -> Refusal
+    ensures { IsToldAs (IsFaultBelow path.now) result }
+{
+    match step_fault(alloc, path, step, reason) {
+        Ok(text) => Refusal::Told(text),
+        Err(AllocError) => Refusal::Memory,
+    }
+}
+
+fn step_fault(alloc: Global, path: &str, step: PathStep, reason: &str) -> Result<String, AllocError>
+    ensures { IfOk result (λ s. IsFaultBelow path.now (string_bytes s)) }
+{
+    let part = step_text(alloc, step)?;
+    fault_below(alloc, path, steps_of(part.as_str()), reason)
+}
+
+fn step_text(alloc: Global, step: PathStep) -> Result<String, AllocError> {
+    let mut steps: Vec<PathStep> = Vec::new(alloc);
+    add_last(&mut steps, step)?;
+    let part = JsonPath { steps };
+    format!(in alloc; "{part}")
 }
 
 fn json_fault(alloc: Global, path: &str, error: &JsonError) -> Result<String, AllocError>

@@ -7,6 +7,8 @@
 //! - `searching`: what a search finds. `opened`: the request in which a part is searched for. `found`: what is found, as
 //!   JSON. `versions`: the version of what is decided and found.
 //! - `partials`, `leaving`: the request of which parts may be unknown, and what is left of the policies for it.
+//! - `properties`, `brought`: attributes and entities that a request brings, over those that are stored. `documents`: the
+//!   JSON of a request, and texts of its parts.
 //! - `loaded`: an engine with its texts, of which one can be replaced. `reasons`: what is wrong with policies.
 //! - `faults`: why there is no decision. `serving`: one connection.
 //!
@@ -20,8 +22,10 @@
 //! these answers.
 #![tactic(auto)]
 
+mod brought;
 mod contexts;
 mod deciding;
+mod documents;
 mod engine;
 mod faults;
 mod found;
@@ -30,6 +34,7 @@ mod loaded;
 mod names;
 mod opened;
 mod partials;
+mod properties;
 mod reasons;
 mod requests;
 mod responses;

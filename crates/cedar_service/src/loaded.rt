@@ -21,6 +21,8 @@ pub(crate) struct Texts {
     pub(crate) policies: String,
     // The entities, in Cedar's JSON.
     pub(crate) entities: String,
+    // Whether the attributes of a request stand instead of those that are stored.
+    pub(crate) request_wins: bool,
 }
 
 /// An engine, and the texts that it is made of.
@@ -35,12 +37,19 @@ impl Loaded {
     ghost use Rattle.cedar_service.specs.Started.{IsNotStarted};
 
     /// The engine of the policies that the first text writes, in Cedar's text, over the entities that the second one
-    /// says, in Cedar's JSON, with copies of both. Refuses as `Engine::of_texts` does.
-    pub fn of_texts(alloc: Global, policies: &str, entities: &str) -> Result<Loaded, NotStarted>
-        ensures loaded { IfOk result (IsLoadedOf (both_texts policies.now entities.now)) }
+    /// says, in Cedar's JSON, with copies of both. Where an evaluation has a property of the name of an attribute that is
+    /// stored, it is refused, unless `request_wins`: then its property stands instead. Refuses as `Engine::of_texts`
+    /// does.
+    pub fn of_texts(
+        alloc: Global,
+        policies: &str,
+        entities: &str,
+        request_wins: bool,
+    ) -> Result<Loaded, NotStarted>
+        ensures loaded { IfOk result (IsLoadedOf (both_texts policies.now entities.now request_wins)) }
         ensures refused { IfErr result (IsNotStarted policies.now entities.now) }
     {
-        match copied(alloc, policies, entities) {
+        match copied(alloc, policies, entities, request_wins) {
             Ok(texts) => with_engine(alloc, policies, entities, texts),
             Err(AllocError) => Err(NotStarted::Memory),
         }
@@ -62,8 +71,8 @@ fn with_engine(
     entities: &str,
     texts: Texts,
 ) -> Result<Loaded, NotStarted>
-    requires { texts_view texts ≡ both_texts policies.now entities.now }
-    ensures loaded { IfOk result (IsLoadedOf (both_texts policies.now entities.now)) }
+    requires { texts_view texts ≡ both_texts policies.now entities.now texts.request_wins }
+    ensures loaded { IfOk result (IsLoadedOf (both_texts policies.now entities.now texts.request_wins)) }
     ensures refused { IfErr result (IsNotStarted policies.now entities.now) }
 {
     match Engine::of_texts(alloc, policies, entities) {
@@ -75,16 +84,25 @@ fn with_engine(
     }
 }
 
-fn copied(alloc: Global, policies: &str, entities: &str) -> Result<Texts, AllocError>
-    ensures { IfOk result (λ t. texts_view t ≡ both_texts policies.now entities.now) }
+fn copied(
+    alloc: Global,
+    policies: &str,
+    entities: &str,
+    request_wins: bool,
+) -> Result<Texts, AllocError>
+    ensures { IfOk result (λ t. texts_view t ≡ both_texts policies.now entities.now request_wins) }
 {
     let policies = String::from_str(alloc, policies)?;
     let entities = String::from_str(alloc, entities)?;
-    Ok(Texts { policies, entities })
+    Ok(Texts {
+        policies,
+        entities,
+        request_wins,
+    })
 }
 
-/// What takes its place where this text is taken in place of its policies or its entities. Refuses a text that is
-/// wrong, with the reason and where in it that is.
+/// What takes its place where this text is taken in place of its policies or its entities; all else is the same. Refuses
+/// a text that is wrong, with the reason and where in it that is.
 pub(crate) fn remade(
     alloc: Global,
     loaded: &Loaded,
@@ -94,17 +112,23 @@ pub(crate) fn remade(
     ensures remade { IfOk result (Remakes loaded.now replaced text.now) }
     ensures refused { IfErr result (IsNotRemade (Refuses loaded.now replaced text.now)) }
 {
+    let texts = &loaded.texts;
     match replaced {
-        Replaced::Policies => made_of(alloc, text, loaded.texts.entities.as_str()),
-        Replaced::Entities => made_of(alloc, loaded.texts.policies.as_str(), text),
+        Replaced::Policies => made_of(alloc, text, texts.entities.as_str(), texts.request_wins),
+        Replaced::Entities => made_of(alloc, texts.policies.as_str(), text, texts.request_wins),
     }
 }
 
-fn made_of(alloc: Global, policies: &str, entities: &str) -> Result<Loaded, NotRemade>
-    ensures made { IfOk result (IsLoadedOf (both_texts policies.now entities.now)) }
-    ensures refused { IfErr result (IsNotRemade (IsRefusedFor (both_texts policies.now entities.now))) }
+fn made_of(
+    alloc: Global,
+    policies: &str,
+    entities: &str,
+    request_wins: bool,
+) -> Result<Loaded, NotRemade>
+    ensures made { IfOk result (IsLoadedOf (both_texts policies.now entities.now request_wins)) }
+    ensures refused { IfErr result (IsNotRemade (IsRefusedFor (both_texts policies.now entities.now request_wins))) }
 {
-    match Loaded::of_texts(alloc, policies, entities) {
+    match Loaded::of_texts(alloc, policies, entities, request_wins) {
         Ok(loaded) => Ok(loaded),
         Err(reason) => {
             let refusal = refuse_reason(alloc, policies, &reason);

@@ -12,7 +12,7 @@ ghost use Rattle.cedar_service.specs.Started.{is_read_memory};
 ghost use Rattle.cedar_service.specs.Left.{IsEntryOf, IsKnownEntry, IsOpenEntry, IsTextEntry, IsNoEntry, IsNoName};
 ghost use Rattle.cedar_service.specs.Left.{IsNoText, IsContextIfGiven, AreUnentered, IsAskedPartly, IsUnaskedPartly};
 
-use crate::contexts::context_in;
+use crate::contexts::{CONTEXT, context_in};
 use crate::faults::{Refusal, refuse_reason};
 use crate::names::entity_of;
 use crate::opened::type_alone;
@@ -122,7 +122,7 @@ fn given_context(
     ensures refused { IfErr result (IsToldAs
         (IsContextUnsaid (extensions_view extensions.now) (calls_of extensions.now) (Some (value_view value.now)))) }
 {
-    match context_in(alloc, value, extensions) {
+    match context_in(alloc, value, CONTEXT, extensions) {
         Ok(context) => Ok(Some(context)),
         Err(refusal) => Err(refusal),
     }

@@ -1,17 +1,22 @@
 #![tactic(auto, using(crate::proofs::Held::held))]
 //! The request that is asked.
-ghost use Rattle.std.specs.Prelude.{◌≡◌, Ok, IfOk, IfErr, codes};
+ghost use Rattle.std.specs.Prelude.{◌≡◌, Ok, IfOk, IfErr, codes, is_some};
 ghost use Rattle.cedar_extensions.specs.Extensions.{extensions_view, calls_of};
 ghost use Rattle.cedar_names.specs.Names.{uid_name};
 ghost use Rattle.cedar_model.specs.Settings.{known_entry};
 ghost use Rattle.cedar_requests.specs.Contexts.{context_view};
 ghost use Rattle.cedar_requests.specs.Requests.{request_view};
 ghost use Rattle.cedar_endpoints.specs.Asked.{evaluation_view, named_view};
+ghost use Rattle.json.specs.Find.{get};
+ghost use Rattle.json.specs.Value.{value_view};
+ghost use Rattle.cedar_service.specs.Documents.{IsReadAs, IsWritable};
 ghost use Rattle.cedar_service.specs.Asked.{IsAsked, IsUnasked, AreUnnamed, IsSaid, IsUnsaid};
+ghost use Rattle.cedar_service.specs.Asked.{IsSaidBy, IsUnsaidBy, IsSaidBeside, IsUnsaidBeside};
 ghost use Rattle.cedar_service.specs.Asked.{entity_said, action_named, has_known_context, is_known_part};
 ghost use Rattle.cedar_service.specs.Faults.{IsToldAs};
 
 use crate::contexts::{LEVELS, context_of};
+use crate::documents::rest_text;
 use crate::faults::{Refusal, refuse_json};
 use crate::names::{action_of, entity_of};
 use cedar_endpoints::Evaluation;
@@ -19,6 +24,7 @@ use cedar_extensions::Extensions;
 use cedar_json_reader::request_from_json_str;
 use cedar_names::EntityUID;
 use cedar_requests::{Context, Request};
+use json::Value;
 use std::alloc::{AllocError, Global};
 
 // The three entities of a request.
@@ -152,15 +158,38 @@ fn request_with(entities: Entities, context: Context) -> Request
     Request::of(principal, action, resource, context)
 }
 
-/// The request that the text says, in Cedar's JSON. Refuses what says none, and a context that does not evaluate.
+/// The request that the text says, which is this JSON, in Cedar's JSON, but for the entities that it brings. Refuses what
+/// says none, and a context that does not evaluate.
 pub(crate) fn request_said(
     alloc: Global,
     text: &str,
+    value: Value<'_>,
     extensions: &Extensions<'_>,
 ) -> Result<Request, Refusal>
+    requires read { IsReadAs text.now (value_view value) }
     ensures said { IfOk result (IsSaid (extensions_view extensions.now) (calls_of extensions.now) text.now) }
     ensures refused { IfErr result (IsToldAs
         (IsUnsaid (extensions_view extensions.now) (calls_of extensions.now) text.now)) }
+{
+    if brings_entities(&value) {
+        said_beside(alloc, value, extensions)
+    } else {
+        drop(value);
+        said_by(alloc, text, extensions)
+    }
+}
+
+fn brings_entities(value: &Value<'_>) -> bool
+    ensures { result ≡ is_some (get (codes "entities") (value_view value.now)) }
+{
+    value.get("entities").is_some()
+}
+
+// The request that the text says.
+fn said_by(alloc: Global, text: &str, extensions: &Extensions<'_>) -> Result<Request, Refusal>
+    ensures said { IfOk result (IsSaidBy (extensions_view extensions.now) (calls_of extensions.now) text.now) }
+    ensures refused { IfErr result (IsToldAs
+        (IsUnsaidBy (extensions_view extensions.now) (calls_of extensions.now) text.now)) }
 {
     match request_from_json_str(alloc, text, extensions, LEVELS) {
         Ok(request) => Ok(request),
@@ -169,6 +198,28 @@ pub(crate) fn request_said(
             drop(error);
             Err(refusal)
         }
+    }
+}
+
+// The request that the JSON says beside entities.
+fn said_beside(
+    alloc: Global,
+    value: Value<'_>,
+    extensions: &Extensions<'_>,
+) -> Result<Request, Refusal>
+    requires { IsWritable (value_view value) }
+    ensures said { IfOk result (IsSaidBeside (extensions_view extensions.now) (calls_of extensions.now)
+        (value_view value.entry)) }
+    ensures refused { IfErr result (IsToldAs (IsUnsaidBeside (extensions_view extensions.now)
+        (calls_of extensions.now) (value_view value.entry))) }
+{
+    match rest_text(alloc, value) {
+        Ok(text) => {
+            let said = said_by(alloc, text.as_str(), extensions);
+            drop(text);
+            said
+        }
+        Err(AllocError) => Err(Refusal::Memory),
     }
 }
 

@@ -4,7 +4,7 @@ ghost use Rattle.cedar_decisions.specs.Decisions.{decision_view};
 ghost use Rattle.cedar_extensions.specs.Extensions.{extensions_view, calls_of};
 ghost use Rattle.cedar_authorizer.specs.responses.Responses.{response_view};
 ghost use Rattle.cedar_service.specs.Decided.{is_allow};
-ghost use Rattle.cedar_service.specs.Engines.{policies_of, entities_of};
+ghost use Rattle.cedar_service.specs.Engines.{policies_of};
 ghost use Rattle.cedar_service.specs.Decided.{IsResponseTo, IsResponseText, IsOutcomeOf};
 
 use crate::contexts::LEVELS;
@@ -13,24 +13,26 @@ use cedar_authorizer::authorizer::{Authorizer, Decision, Response};
 use cedar_endpoints::Outcome;
 use cedar_extensions::Extensions;
 use cedar_json_writer::response_to_json;
+use cedar_layers::policies::Entities;
 use cedar_requests::Request;
 use std::alloc::{AllocError, Global};
 
 /// How many levels the condition of a policy that was read has at most: one more than its clauses.
 pub(crate) const LIMIT: usize = LEVELS + 1;
 
-/// What the engine's policies decide for the request over its entities.
+/// What the engine's policies decide for the request over this store.
 pub(crate) fn response_to(
     alloc: Global,
     engine: &Engine,
+    store: &Entities,
     request: Request,
     extensions: &Extensions<'_>,
 ) -> Result<Response, AllocError>
     ensures { IfOk result (λ a. IsResponseTo (extensions_view extensions.now) (calls_of extensions.now)
-        (policies_of engine.now) (entities_of engine.now) request (response_view a)) }
+        (policies_of engine.now) store.now request (response_view a)) }
 {
     let authorizer = Authorizer::new(extensions, LIMIT);
-    authorizer.is_authorized(alloc, request, &engine.policies.policies, &engine.entities)
+    authorizer.is_authorized(alloc, request, &engine.policies.policies, store)
 }
 
 /// The decision, and the response that it is due to as JSON.

@@ -6,60 +6,130 @@ ghost use Rattle.cedar_search.specs.Pages.{IsPage, page_view};
 ghost use Rattle.cedar_endpoints.specs.Asked.{evaluation_view, named_view};
 ghost use Rattle.cedar_endpoints.specs.Searches.{search_view, parts_view};
 ghost use Rattle.cedar_service.specs.Asked.{has_known_context};
-ghost use Rattle.cedar_service.specs.Engines.{candidates_of};
+ghost use Rattle.cedar_service.specs.Brought.{laid_or};
+ghost use Rattle.cedar_service.specs.Engines.{candidates_of, entities_of};
 ghost use Rattle.cedar_service.specs.Searched.{sample, sample_named, part_of, question_of};
-ghost use Rattle.cedar_service.specs.Searched.{IsFound, IsFoundWith, IsPageFor, IsListed, IsFindingOf, IsUnfound};
+ghost use Rattle.cedar_service.specs.Searched.{IsFound, IsFoundWith, IsFoundOver, IsPageFor, IsListed, IsFindingOf, IsUnfound};
 
 use crate::engine::Engine;
 use crate::faults::{Refusal, refuse};
 use crate::found::texts_of;
 use crate::opened::opened;
+use crate::properties::laid_over;
 use crate::requests::{has_known_context, request_of};
 use crate::responses::LIMIT;
 use cedar_authorizer::authorizer::Authorizer;
 use cedar_endpoints::{Evaluation, Finding, Named, Parts, Search};
 use cedar_extensions::Extensions;
+use cedar_layers::policies::Entities;
 use cedar_requests::Request;
 use cedar_search::{Page, Part};
 use std::alloc::{AllocError, Global};
+
+// Which part is searched for, and of which page: behind so many candidates, with at most so many.
+#[derive(Clone, Copy)]
+struct Pages {
+    part: Part,
+    after: usize,
+    most: usize,
+}
 
 /// The page of what is found behind so many candidates, with at most so many, or why there is none.
 pub(crate) fn search(
     engine: &Engine,
     alloc: Global,
     question: &Search<'_, '_>,
+    request_wins: bool,
     after: usize,
     most: usize,
 ) -> Result<Finding, AllocError>
-    ensures { IfOk result (IsFound engine.now (search_view question.now) after most) }
+    ensures { IfOk result (IsFound engine.now request_wins (search_view question.now) after most) }
 {
     let extensions = Extensions::all_available();
-    search_with(engine, alloc, question, after, most, &extensions)
+    search_with(
+        engine,
+        alloc,
+        question,
+        request_wins,
+        after,
+        most,
+        &extensions,
+    )
 }
 
 fn search_with(
     engine: &Engine,
     alloc: Global,
     question: &Search<'_, '_>,
+    request_wins: bool,
     after: usize,
     most: usize,
     extensions: &Extensions<'_>,
 ) -> Result<Finding, AllocError>
     ensures { IfOk result (IsFoundWith (extensions_view extensions.now) (calls_of extensions.now) engine.now
-        (search_view question.now) after most) }
+        request_wins (search_view question.now) after most) }
 {
     let sample = sample_of(question);
+    let pages = Pages {
+        part: part_of(question.parts),
+        after,
+        most,
+    };
     match request_of(alloc, &sample, extensions) {
-        Ok(request) => find(
+        Ok(request) => find_over(
             engine,
             alloc,
-            part_of(question.parts),
+            &sample,
+            request_wins,
             request,
-            after,
-            most,
+            pages,
             extensions,
         ),
         Err(refusal) => unfound(refusal),
+    }
+}
+
+// The same for this request.
+fn find_over(
+    engine: &Engine,
+    alloc: Global,
+    sample: &Evaluation<'_, '_>,
+    request_wins: bool,
+    request: Request,
+    pages: Pages,
+    extensions: &Extensions<'_>,
+) -> Result<Finding, AllocError>
+    ensures { IfOk result (IsFoundOver (extensions_view extensions.now) (calls_of extensions.now) engine.now
+        request_wins (evaluation_view sample.now) pages.part request pages.after pages.most) }
+{
+    match laid_over(alloc, engine.entities(), sample, request_wins, extensions) {
+        Ok(laid) => find_laid(engine, alloc, laid, request, pages, extensions),
+        Err(refusal) => {
+            drop(request);
+            unfound(refusal)
+        }
+    }
+}
+
+// Over what was laid over the engine's entities, if something was.
+fn find_laid(
+    engine: &Engine,
+    alloc: Global,
+    laid: Option<Entities>,
+    request: Request,
+    pages: Pages,
+    extensions: &Extensions<'_>,
+) -> Result<Finding, AllocError>
+    ensures { IfOk result (IsPageFor (extensions_view extensions.now) (calls_of extensions.now) engine.now
+        (laid_or (entities_of engine.now) laid) pages.part request pages.after pages.most) }
+{
+    match laid {
+        Some(store) => {
+            let finding = find(engine, alloc, &store, request, pages, extensions);
+            drop(store);
+            finding
+        }
+        None => find(engine, alloc, engine.entities(), request, pages, extensions),
     }
 }
 
@@ -68,6 +138,7 @@ fn sample_of<'v, 'a>(question: &Search<'v, 'a>) -> Evaluation<'v, 'a>
     ensures { evaluation_view result ≡ sample (search_view question.now) }
 {
     let context = question.context;
+    let properties = question.properties;
     match question.parts {
         Parts::Subject {
             type_name,
@@ -78,12 +149,14 @@ fn sample_of<'v, 'a>(question: &Search<'v, 'a>) -> Evaluation<'v, 'a>
             action,
             resource,
             context,
+            properties,
         },
         Parts::Action { subject, resource } => Evaluation {
             subject,
             action: "",
             resource,
             context,
+            properties,
         },
         Parts::Resource {
             subject,
@@ -94,6 +167,7 @@ fn sample_of<'v, 'a>(question: &Search<'v, 'a>) -> Evaluation<'v, 'a>
             action,
             resource: sample_named(type_name),
             context,
+            properties,
         },
     }
 }
@@ -118,17 +192,16 @@ fn part_of(parts: Parts<'_>) -> Part
 fn find(
     engine: &Engine,
     alloc: Global,
-    part: Part,
+    store: &Entities,
     request: Request,
-    after: usize,
-    most: usize,
+    pages: Pages,
     extensions: &Extensions<'_>,
 ) -> Result<Finding, AllocError>
-    ensures { IfOk result (IsPageFor (extensions_view extensions.now) (calls_of extensions.now) engine.now part request
-        after most) }
+    ensures { IfOk result (IsPageFor (extensions_view extensions.now) (calls_of extensions.now) engine.now store.now
+        pages.part request pages.after pages.most) }
 {
     if has_known_context(&request) {
-        find_known(engine, alloc, part, request, after, most, extensions)
+        find_known(engine, alloc, store, request, pages, extensions)
     } else {
         drop(request);
         unfound(refuse(alloc, "$.context", "an unknown stands in it"))
@@ -138,18 +211,17 @@ fn find(
 fn find_known(
     engine: &Engine,
     alloc: Global,
-    part: Part,
+    store: &Entities,
     request: Request,
-    after: usize,
-    most: usize,
+    pages: Pages,
     extensions: &Extensions<'_>,
 ) -> Result<Finding, AllocError>
     requires { has_known_context request ≡ true }
-    ensures { IfOk result (IsPageFor (extensions_view extensions.now) (calls_of extensions.now) engine.now part request
-        after most) }
+    ensures { IfOk result (IsPageFor (extensions_view extensions.now) (calls_of extensions.now) engine.now store.now
+        pages.part request pages.after pages.most) }
 {
-    let open = opened(part, request)?;
-    let finding = listed(engine, alloc, part, &open, after, most, extensions);
+    let open = opened(pages.part, request)?;
+    let finding = listed(engine, alloc, store, &open, pages, extensions);
     drop(open);
     finding
 }
@@ -157,42 +229,40 @@ fn find_known(
 fn listed(
     engine: &Engine,
     alloc: Global,
-    part: Part,
+    store: &Entities,
     request: &Request,
-    after: usize,
-    most: usize,
+    pages: Pages,
     extensions: &Extensions<'_>,
 ) -> Result<Finding, AllocError>
     ensures { IfOk result (IsListed
-        (question_of (extensions_view extensions.now) (calls_of extensions.now) engine.now part
-        (request_view request.now)) (candidates_of engine.now) after most) }
+        (question_of (extensions_view extensions.now) (calls_of extensions.now) engine.now store.now pages.part
+        (request_view request.now)) (candidates_of engine.now) pages.after pages.most) }
 {
-    let page = page_of(engine, alloc, part, request, after, most, extensions)?;
-    finding_of(alloc, part, &page)
+    let page = page_of(engine, alloc, store, request, pages, extensions)?;
+    finding_of(alloc, pages.part, &page)
 }
 
 fn page_of(
     engine: &Engine,
     alloc: Global,
-    part: Part,
+    store: &Entities,
     request: &Request,
-    after: usize,
-    most: usize,
+    pages: Pages,
     extensions: &Extensions<'_>,
 ) -> Result<Page, AllocError>
     ensures { IfOk result (λ p. IsPage
-        (question_of (extensions_view extensions.now) (calls_of extensions.now) engine.now part
-        (request_view request.now)) (candidates_of engine.now) after most (page_view p)) }
+        (question_of (extensions_view extensions.now) (calls_of extensions.now) engine.now store.now pages.part
+        (request_view request.now)) (candidates_of engine.now) pages.after pages.most (page_view p)) }
 {
     let authorizer = Authorizer::new(extensions, LIMIT);
     let search = cedar_search::Search {
-        part,
+        part: pages.part,
         request,
         policies: &engine.policies.policies,
-        entities: &engine.entities,
+        entities: store,
         candidates: engine.candidates.as_slice(),
     };
-    search.page(alloc, &authorizer, after, most)
+    search.page(alloc, &authorizer, pages.after, pages.most)
 }
 
 fn finding_of(alloc: Global, part: Part, page: &Page) -> Result<Finding, AllocError>

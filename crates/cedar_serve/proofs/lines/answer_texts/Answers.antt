@@ -12,6 +12,6 @@ returns-in-Ok-clause-answered g c =
     let w = g.W.Write.contents c.args.writer.now in
     let v = g.W.Write.contents c.answer_with-answered.new.writer in
     on_ok (AreAllAnswered (IsAuthorized (engine_of c.in-Ok.loaded)) r w v)
-    (AreAnsweredFrom c.args.texts.policies.now c.args.texts.entities.now r w v)
+    (AreAnsweredFrom c.args.texts.policies.now c.args.texts.entities.now c.args.texts.request_wins r w v)
     (λ h. record { loaded = c.in-Ok.loaded; is_of = c.in-Ok.ensures.loaded; all = h })
     c.answer_with-answered.result c.answer_with-answered.ensures.answered

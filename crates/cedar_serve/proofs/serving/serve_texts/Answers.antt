@@ -13,7 +13,8 @@ returns-in-Ok-clause-served g c =
     × Consumes (g.R.Read.remaining c.args.reader.now) (g.R.Read.remaining c.serve_with.new.reader) h.received
     × Appends (g.W.Write.contents c.args.writer.now) (g.W.Write.contents c.serve_with.new.writer) h.sent)
     (λ h. IsServedFrom c.args.texts.policies.now c.args.texts.entities.now
-    (option_map (λ u. u.now) c.args.texts.url) c.args.texts.page c.args.texts.allows_reload c.args.config h
+    (option_map (λ u. u.now) c.args.texts.url) c.args.texts.page c.args.texts.allows_reload c.args.texts.request_wins
+    c.args.config h
     × Consumes (g.R.Read.remaining c.args.reader.now) (g.R.Read.remaining c.serve_with.new.reader) h.received
     × Appends (g.W.Write.contents c.args.writer.now) (g.W.Write.contents c.serve_with.new.writer) h.sent)
     c.serve_with.result
@@ -24,8 +25,8 @@ returns-in-Ok-clause-served g c =
         metadata = c.in-Ok.ensures.metadata;
         page_is = c.in-Ok.ensures.page;
         reload_is = c.in-Ok.ensures.reload;
-        answered = served.answered (both_texts c.args.texts.policies.now c.args.texts.entities.now)
-            c.in-Ok.ensures.engine;
+        answered = served.answered (both_texts c.args.texts.policies.now c.args.texts.entities.now
+            c.args.texts.request_wins) c.in-Ok.ensures.engine;
         sent = served.sent;
       },
       read,

@@ -1,4 +1,4 @@
-use Rattle.std.proofs.Common.{◌≡◌, Ok, codes}
+use Rattle.std.proofs.Common.{◌≡◌, Ok}
 use Rattle.json.specs.Value.{value_view}
 use Rattle.cedar_model.specs.Terms.{Text}
 use Rattle.cedar_extensions.specs.Extensions.{extensions_view, calls_of}
@@ -26,8 +26,8 @@ returns-in-Ok-clause-refused g c =
     let x = c.args.extensions.now in
     let j = value_view c.args.value.now in
     let t = restricted_term c.in-Ok.expr in
-    let No : Text → Type 0 = λ s. IsNoContextOf (extensions_view x) (calls_of x) t × IsFaultBelow (codes "$.context") s in
-    let Of : Text → Type 0 = λ s. IsNoContext (extensions_view x) (calls_of x) j × IsFaultBelow (codes "$.context") s in
+    let No : Text → Type 0 = λ s. IsNoContextOf (extensions_view x) (calls_of x) t × IsFaultBelow c.args.path.now s in
+    let Of : Text → Type 0 = λ s. IsNoContext (extensions_view x) (calls_of x) j × IsFaultBelow c.args.path.now s in
     of_err (IsToldAs No) (IsToldAs Of) (because No Of (λ s h. (unmade t c.in-Ok.ensures.said h.0, h.1)))
     c.evaluate-context.result c.evaluate-context.ensures.refused
 
@@ -37,7 +37,7 @@ returns-in-Err-clause-refused g c =
     let j = value_view c.args.value.now in
     let e = c.in-Err.error in
     let r = c.refuse_json-refusal.result in
-    both (λ _. IsNoContext (extensions_view x) (calls_of x) j) (IsFaultBelow (codes "$.context")) r
+    both (λ _. IsNoContext (extensions_view x) (calls_of x) j) (IsFaultBelow c.args.path.now) r
     (because (λ _. IsOfJson e) (λ _. IsNoContext (extensions_view x) (calls_of x) j)
     (λ s h. unsaid_json (extensions_view x) (calls_of x) j e c.in-Err.ensures.refused h) r
     c.refuse_json-refusal.ensures.json) c.refuse_json-refusal.ensures.fault

@@ -1,4 +1,4 @@
-use Rattle.std.proofs.Common.{◌≡◌, Ok, Err, ap, subst, codes}
+use Rattle.std.proofs.Common.{◌≡◌, Ok, Err, ap, subst}
 use Rattle.cedar_expressions.specs.View.{view}
 use Rattle.cedar_model.specs.Terms.{Term}
 use Rattle.cedar_extensions.specs.Extensions.{extensions_view, calls_of}
@@ -25,7 +25,7 @@ returns-in-Err-clause-refused g c =
     let same : borrowed_term c.as_borrowed.result ≡ t = ap view c.as_borrowed.ensures in
     let failed : IsCreated (extensions_view x) (calls_of x) levels t (Err e) =
     subst (λ (u : Term). IsCreated (extensions_view x) (calls_of x) levels u (Err e)) same c.in-Err.ensures.created in
-    both (λ _. IsNoContextOf (extensions_view x) (calls_of x) t) (IsFaultBelow (codes "$.context"))
+    both (λ _. IsNoContextOf (extensions_view x) (calls_of x) t) (IsFaultBelow c.args.path.now)
     c.refuse_creation-refusal.result
     (because (λ _. IsOfCreation e) (λ _. IsNoContextOf (extensions_view x) (calls_of x) t)
     (λ s h. uncreated (extensions_view x) (calls_of x) t e failed h)

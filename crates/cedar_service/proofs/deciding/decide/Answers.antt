@@ -14,8 +14,9 @@ returns c =
     let there = c.all_available-extensions.ensures.standard in
     let e = c.args.engine.now in
     let q = (evaluation_view c.args.question.now) in
-    of_ok (IsDecidedWith (extensions_view x) (calls_of x) e q) (IsDecided e q)
+    let w = c.args.request_wins in
+    of_ok (IsDecidedWith (extensions_view x) (calls_of x) e w q) (IsDecided e w q)
     (λ o h.
-    subst (λ calls. IsDecidedWith standard_extensions calls e q o) (calls_alone x none there)
-    (subst (λ v. IsDecidedWith v (calls_of x) e q o) (view_alone x none there) h))
+    subst (λ calls. IsDecidedWith standard_extensions calls e w q o) (calls_alone x none there)
+    (subst (λ v. IsDecidedWith v (calls_of x) e w q o) (view_alone x none there) h))
     c.decide_with.result c.decide_with.ensures

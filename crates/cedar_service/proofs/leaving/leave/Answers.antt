@@ -14,8 +14,9 @@ returns c =
     let there = c.all_available-extensions.ensures.standard in
     let e = c.args.engine.now in
     let q = (partial_view c.args.question.now) in
-    of_ok (IsLeftWith (extensions_view x) (calls_of x) e q) (IsLeft e q)
+    let t = c.args.text.now in
+    of_ok (IsLeftWith (extensions_view x) (calls_of x) e q t) (IsLeft e q t)
     (λ o h.
-    subst (λ calls. IsLeftWith standard_extensions calls e q o) (calls_alone x none there)
-    (subst (λ v. IsLeftWith v (calls_of x) e q o) (view_alone x none there) h))
+    subst (λ calls. IsLeftWith standard_extensions calls e q t o) (calls_alone x none there)
+    (subst (λ v. IsLeftWith v (calls_of x) e q t o) (view_alone x none there) h))
     c.leave_with.result c.leave_with.ensures

@@ -7,7 +7,7 @@ use Rattle.cedar_extensions.specs.Extensions.{extensions_view, calls_of}
 use Rattle.cedar_layers.specs.Stores.{store_view}
 use Rattle.cedar_requests.specs.Requests.{request_view}
 use Rattle.cedar_authorizer.specs.Configured.{configuration, asked, extensions_of, limit_of, mode_of, resolution_of}
-use Rattle.cedar_service.specs.Engines.{policies_of, entities_of}
+use Rattle.cedar_service.specs.Engines.{policies_of}
 use Rattle.cedar_service.proofs.Untold.{partial_to}
 use Rattle.cedar_service.proofs.leaving.partial_response.Goals as goal
 
@@ -21,10 +21,10 @@ returns g c =
     let mode : mode_of a ≡ skip = made.mode in
     let resolution : resolution_of a ≡ shallow = made.resolution in
     let limit : limit_of a ≡ 18446744073709551615 = made.limit in
-    partial_to (extensions_view x) (calls_of x) (policies_of e) (entities_of e) c.args.request
-    (configuration a) (asked a c.args.request (entities_of e))
+    partial_to (extensions_view x) (calls_of x) (policies_of e) c.args.store.now c.args.request
+    (configuration a) (asked a c.args.request c.args.store.now)
     (λ i. configured (calls_of (own i)) (mode i) (resolution i) (extensions_view (own i)) (limit i))
     (λ i. at_step (extensions_view (own i)) (resolution i) (request_view c.args.request)
-    (store_view (entities_of e)) no_values)
+    (store_view c.args.store.now) no_values)
     c.is_authorized_core.result c.is_authorized_core.ensures.run c.is_authorized_core.ensures.stands
     c.is_authorized_core.ensures.known c.is_authorized_core.ensures.deep_enough c.is_authorized_core.ensures.request

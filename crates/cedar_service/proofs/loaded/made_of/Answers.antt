@@ -4,7 +4,7 @@ use Rattle.cedar_service.proofs.loaded.made_of.Goals as goal
 
 pub returns-in-Err-clause-refused : goal.returns-in-Err-clause-refused
 returns-in-Err-clause-refused c =
-    let ts : Texts = both_texts c.args.policies.now c.args.entities.now in
+    let ts : Texts = both_texts c.args.policies.now c.args.entities.now c.args.request_wins in
     let r = c.refuse_reason-refusal.result in
     unmade_as (IsRefusedFor ts) r c.same_refusal.result
     (refused_for ts c.in-Err.reason c.in-Err.ensures.refused r c.refuse_reason-refusal.ensures.reason

@@ -11,7 +11,7 @@ returns g c =
     let x = c.args.extensions.now in
     let e = c.args.engine.now in
     let p = page_view c.in_ok-page.page in
-    of_ok (IsFindingOf c.args.part p)
-    (IsListed (question_of (extensions_view x) (calls_of x) e c.args.part (request_view c.args.request.now))
-    (candidates_of e) c.args.after c.args.most)
+    of_ok (IsFindingOf c.args.pages.part p)
+    (IsListed (question_of (extensions_view x) (calls_of x) e c.args.store.now c.args.pages.part (request_view c.args.request.now))
+    (candidates_of e) c.args.pages.after c.args.pages.most)
     (λ f h. (p, c.in_ok-page.ensures, h)) c.finding_of.result c.finding_of.ensures

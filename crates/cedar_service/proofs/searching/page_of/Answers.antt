@@ -10,7 +10,7 @@ use Rattle.cedar_authorizer.specs.Configured.{configuration, extensions_of, limi
 use Rattle.cedar_authorizer.specs.Responding.{considered}
 use Rattle.cedar_search.specs.Questions.{Question}
 use Rattle.cedar_search.specs.Pages.{IsPage, page_view}
-use Rattle.cedar_service.specs.Engines.{policies_of, entities_of, candidates_of}
+use Rattle.cedar_service.specs.Engines.{policies_of, candidates_of}
 use Rattle.cedar_service.specs.Searched.{question_of}
 use Rattle.cedar_service.proofs.searching.page_of.Goals as goal
 
@@ -27,18 +27,18 @@ returns g c =
     let limit : limit_of a ≡ 4001 = made.limit in
     let asked : Question = record {
       configuration = configuration a;
-      part = c.args.part;
+      part = c.args.pages.part;
       request = r;
-      store = store_view (entities_of e);
+      store = store_view c.args.store.now;
       policies = considered (policies_of e);
     } in
-    let same : asked ≡ question_of (extensions_view x) (calls_of x) e c.args.part r = λ i. record {
+    let same : asked ≡ question_of (extensions_view x) (calls_of x) e c.args.store.now c.args.pages.part r = λ i. record {
       configuration = configured (calls_of (own i)) (mode i) (resolution i) (extensions_view (own i)) (limit i);
-      part = c.args.part;
+      part = c.args.pages.part;
       request = r;
-      store = store_view (entities_of e);
+      store = store_view c.args.store.now;
       policies = considered (policies_of e);
     } in
-    subst (λ q. IfOk c.page.result (λ p. IsPage q (candidates_of e) c.args.after c.args.most (page_view p))) same
-    (subst (λ us. IfOk c.page.result (λ p. IsPage asked (map uid_name us) c.args.after c.args.most (page_view p)))
+    subst (λ q. IfOk c.page.result (λ p. IsPage q (candidates_of e) c.args.pages.after c.args.pages.most (page_view p))) same
+    (subst (λ us. IfOk c.page.result (λ p. IsPage asked (map uid_name us) c.args.pages.after c.args.pages.most (page_view p)))
     c.as_slice.ensures.value c.page.ensures)

@@ -14,10 +14,11 @@ returns c =
     let there = c.all_available-extensions.ensures.standard in
     let e = c.args.engine.now in
     let q = search_view c.args.question.now in
+    let w = c.args.request_wins in
     let after = c.args.after in
     let most = c.args.most in
-    of_ok (IsFoundWith (extensions_view x) (calls_of x) e q after most) (IsFound e q after most)
+    of_ok (IsFoundWith (extensions_view x) (calls_of x) e w q after most) (IsFound e w q after most)
     (λ f h.
-    subst (λ calls. IsFoundWith standard_extensions calls e q after most f) (calls_alone x none there)
-    (subst (λ v. IsFoundWith v (calls_of x) e q after most f) (view_alone x none there) h))
+    subst (λ calls. IsFoundWith standard_extensions calls e w q after most f) (calls_alone x none there)
+    (subst (λ v. IsFoundWith v (calls_of x) e w q after most f) (view_alone x none there) h))
     c.search_with.result c.search_with.ensures

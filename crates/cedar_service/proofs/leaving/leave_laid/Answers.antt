@@ -1,0 +1,22 @@
+use Rattle.std.proofs.Common.{Option, Some, None, IfOk, sym, subst}
+use Rattle.cedar_extensions.specs.Extensions.{extensions_view, calls_of}
+use Rattle.cedar_layers.specs.declared.policies.entities.Entities.{Entities}
+use Rattle.cedar_service.specs.Brought.{laid_or}
+use Rattle.cedar_service.specs.Engines.{entities_of}
+use Rattle.cedar_service.specs.Left.{LeavesFor}
+use Rattle.cedar_service.proofs.leaving.leave_laid.Goals as goal
+
+pub returns-in-Some : goal.returns-in-Some
+returns-in-Some g c =
+    let x = c.args.extensions.now in
+    let e = c.args.engine.now in
+    subst (λ (o : Option Entities). IfOk c.remainder-remainder.result (LeavesFor (extensions_view x) (calls_of x) e (laid_or (entities_of e) o) c.args.request))
+    (sym c.in-Some.is) c.remainder-remainder.ensures
+
+pub returns-in-None : goal.returns-in-None
+returns-in-None g c =
+    let x = c.args.extensions.now in
+    let e = c.args.engine.now in
+    subst (λ (o : Option Entities). IfOk c.remainder.result (LeavesFor (extensions_view x) (calls_of x) e (laid_or (entities_of e) o) c.args.request))
+    (sym c.in-None.is)
+    (subst (λ (s : Entities). IfOk c.remainder.result (LeavesFor (extensions_view x) (calls_of x) e s c.args.request)) c.entities.ensures c.remainder.ensures)

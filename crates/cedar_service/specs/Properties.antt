@@ -1,0 +1,160 @@
+-- Properties that an evaluation brings, as attributes beside those that are stored.
+use Rattle.std.specs.Prelude.{◌≡◌, ⊤, Bool, false, [], ◌∷◌, Option, None, Some, Ok, codes}
+use Rattle.std.specs.BTreeMap.{BTreeMap}
+use Rattle.std.specs.declared.alloc.Global.{Global}
+use Rattle.std.specs.declared.rc.RcStr.{RcStr}
+use Rattle.json.specs.Json.{Json}
+use Rattle.cedar_model.specs.Terms.{Text, EntityName}
+use Rattle.cedar_model.specs.World as world
+use Rattle.cedar_model.specs.Rules.{StoredCalls}
+use Rattle.cedar_model.specs.Settings.{known_context}
+use Rattle.cedar_names.specs.declared.names.EntityUID.{EntityUID}
+use Rattle.cedar_names.specs.Names.{uid_name}
+use Rattle.cedar_values.specs.Sound.{Placed, whats_at}
+use Rattle.cedar_layers.specs.declared.policies.entities.Entities.{Entities}
+use Rattle.cedar_layers.specs.declared.policies.entities.Entity.{Entity}
+use Rattle.cedar_layers.specs.Stores.{store_view, entity_name, entity_view, facts_of_values, with_entities}
+use Rattle.cedar_requests.specs.declared.context.Context.{Context}
+use Rattle.cedar_requests.specs.Contexts.{context_view}
+use Rattle.cedar_json_reader.specs.SaidContexts.{context_said, IsContextOf}
+use Rattle.cedar_overlay.specs.declared.error.AttributesError.{AttributesError}
+use Rattle.cedar_overlay.specs.declared.error.AttributesError.TheVariants as refusals
+use Rattle.cedar_overlay.specs.Overlaid.{overlaid, AreFree, IsRefused}
+use Rattle.cedar_endpoints.specs.Asked.{Named, Evaluation}
+use Rattle.cedar_service.specs.Levels.{levels}
+use Rattle.cedar_service.specs.Faults.{IsFault, IsFaultBelow}
+use Rattle.cedar_service.specs.Asked.{entity_said, action_named, is_known_part, IsUnnamed, IsNoContext}
+
+-- ---- attributes
+
+-- values under their names
+abbrev pub Attributes : Type 0
+Attributes = BTreeMap (RcStr Global) Placed
+
+-- the record that the JSON says is evaluated to these values, as that of a context is, and no unknown stands in it
+abbrev pub AreAttributesOf : world.Extensions → StoredCalls → Json → Attributes → Type 0
+AreAttributesOf X calls j m =
+    (c : Context) × IsContextOf X calls levels (context_said j) c × (context_view c ≡ known_context (whats_at m.entries))
+
+-- an unknown stands in what is made of it, and that is told
+abbrev pub IsNotKnown : Context → Text → Text → Type 0
+IsNotKnown c path t =
+    (is_known_part (context_view c) ≡ false) × IsFault path (codes "an unknown stands in it") t
+
+-- the JSON says no record, or one that does not evaluate, or an unknown stands in it
+pub data AreNoAttributes (X : world.Extensions) (calls : StoredCalls) (j : Json) (path t : Text) : Type 0 where
+  no_record : IsNoContext X calls j → IsFaultBelow path t → AreNoAttributes X calls j path t
+  not_known : (c : Context) → IsContextOf X calls levels (context_said j) c → IsNotKnown c path t
+      → AreNoAttributes X calls j path t
+
+-- ---- the store of both
+
+-- the second store has one entity more: that of this name with these attributes, without parents and tags
+pub record HasOneMore (s : Entities) (n : EntityName) (m : Attributes) (made : Entities) : Type 0 where
+  pub entity : Entity
+  pub name : entity_name entity ≡ n
+  pub facts : entity_view entity ≡ facts_of_values m.entries [] []
+  pub held : (store_view made).entity ≡ with_entities (store_view s).entity (entity ∷ [])
+  pub partial : (store_view made).is_partial ≡ (store_view s).is_partial
+
+-- the second store is the first one but for these attributes of the entity of this name: they stand beside those of the
+-- stored one, which has none of their names unless the request wins, and keeps all else; one that isn't stored has them
+-- alone
+pub data IsLaidOver (wins : Bool) (s : Entities) (n : EntityName) (m : Attributes) (made : Entities) : Type 0 where
+  beside : (u : EntityUID) → uid_name u ≡ n → AreFree (store_view s) ((u, m) ∷ []) wins
+      → store_view made ≡ overlaid (store_view s) ((u, m) ∷ []) → IsLaidOver wins s n m made
+  alone : (store_view s).entity n ≡ None → HasOneMore s n m made → IsLaidOver wins s n m made
+
+-- the error is that an attribute is stored
+abbrev pub IsOfAttributes : AttributesError → Type 0
+IsOfAttributes (refusals.Memory e) = ⊥
+IsOfAttributes (refusals.NotStored u) = ⊤
+IsOfAttributes (refusals.HasAttribute u k) = ⊤
+
+abbrev pub IsTaken : AttributesError → Type 0
+IsTaken (refusals.Memory e) = ⊥
+IsTaken (refusals.NotStored u) = ⊥
+IsTaken (refusals.HasAttribute u k) = ⊤
+
+-- the stored entity has one of these attributes, and the request doesn't win
+pub record AreTaken (wins : Bool) (s : Entities) (n : EntityName) (m : Attributes) (path t : Text) : Type 0 where
+  pub uid : EntityUID
+  pub name : uid_name uid ≡ n
+  pub error : AttributesError
+  pub taken : IsTaken error
+  pub refused : IsRefused (store_view s) ((uid, m) ∷ []) wins error
+  pub told : IsFaultBelow path t
+
+-- ---- the properties of a part
+
+-- the store with the attributes of the entity of this name that the JSON says
+abbrev pub IsLaidAs : world.Extensions → StoredCalls → Bool → Entities → EntityName → Json → Entities → Type 0
+IsLaidAs X calls wins s n j made = (m : Attributes) × AreAttributesOf X calls j m × IsLaidOver wins s n m made
+
+-- it says none, or such as are taken
+pub data IsUnlaid (X : world.Extensions) (calls : StoredCalls) (wins : Bool) (s : Entities) (n : EntityName) (j : Json)
+    (path t : Text) : Type 0 where
+  no_attributes : AreNoAttributes X calls j path t → IsUnlaid X calls wins s n j path t
+  taken : (m : Attributes) → AreAttributesOf X calls j m → AreTaken wins s n m path t
+      → IsUnlaid X calls wins s n j path t
+
+abbrev pub IsNamedAs : Named → EntityName → Type 0
+IsNamedAs q n = entity_said q ≡ Ok n
+
+abbrev pub IsActionNamed : Text → EntityName → Type 0
+IsActionNamed a n = n ≡ action_named a
+
+-- the store with the properties of the entity of which this is so; without any it is the store that stands
+abbrev pub IsWithProperties : world.Extensions → StoredCalls → Bool → Entities → (EntityName → Type 0) → Option Json
+    → Entities → Type 0
+IsWithProperties X calls wins s Is None made = made ≡ s
+IsWithProperties X calls wins s Is (Some j) made = (n : EntityName) × Is n × IsLaidAs X calls wins s n j made
+
+abbrev pub AreWrongProperties : world.Extensions → StoredCalls → Bool → Entities → (EntityName → Type 0) → Option Json
+    → Text → Text → Type 0
+AreWrongProperties X calls wins s Is None path t = ⊥
+AreWrongProperties X calls wins s Is (Some j) path t = (n : EntityName) × Is n × IsUnlaid X calls wins s n j path t
+
+-- the type is no name, or the properties are wrong
+pub data AreWrongOfNamed (X : world.Extensions) (calls : StoredCalls) (wins : Bool) (s : Entities) (q : Named)
+    (type_path : Text) (o : Option Json) (path t : Text) : Type 0 where
+  no_name : IsUnnamed q → IsFault type_path (codes "not a name") t
+      → AreWrongOfNamed X calls wins s q type_path o path t
+  wrong : AreWrongProperties X calls wins s (IsNamedAs q) o path t
+      → AreWrongOfNamed X calls wins s q type_path o path t
+
+-- ---- the properties of an evaluation
+
+-- the store with the properties of the action, and then those of the resource
+pub record IsAskedWithAction (X : world.Extensions) (calls : StoredCalls) (wins : Bool) (s : Entities) (q : Evaluation)
+    (made : Entities) : Type 0 where
+  pub with_action : Entities
+  pub action : IsWithProperties X calls wins s (IsActionNamed q.action) q.properties.action with_action
+  pub resource : IsWithProperties X calls wins with_action (IsNamedAs q.resource) q.properties.resource made
+
+-- the store with those of the subject, then of the action, then of the resource
+pub record IsAskedOver (X : world.Extensions) (calls : StoredCalls) (wins : Bool) (s : Entities) (q : Evaluation)
+    (made : Entities) : Type 0 where
+  pub with_subject : Entities
+  pub subject : IsWithProperties X calls wins s (IsNamedAs q.subject) q.properties.subject with_subject
+  pub others : IsAskedWithAction X calls wins with_subject q made
+
+-- ---- why there is none
+
+pub data IsActionUnlaid (X : world.Extensions) (calls : StoredCalls) (wins : Bool) (s : Entities) (q : Evaluation)
+    (t : Text) : Type 0 where
+  of_action : AreWrongProperties X calls wins s (IsActionNamed q.action) q.properties.action
+      (codes "$.action.properties") t → IsActionUnlaid X calls wins s q t
+  of_resource : (with_action : Entities)
+      → IsWithProperties X calls wins s (IsActionNamed q.action) q.properties.action with_action
+      → AreWrongOfNamed X calls wins with_action q.resource (codes "$.resource.type") q.properties.resource
+      (codes "$.resource.properties") t → IsActionUnlaid X calls wins s q t
+
+-- the properties of the subject are wrong; or, over the store with them, those of the action or of the resource
+pub data AreUnlaid (X : world.Extensions) (calls : StoredCalls) (wins : Bool) (s : Entities) (q : Evaluation) (t : Text)
+    : Type 0 where
+  of_subject : AreWrongOfNamed X calls wins s q.subject (codes "$.subject.type") q.properties.subject
+      (codes "$.subject.properties") t → AreUnlaid X calls wins s q t
+  of_others : (with_subject : Entities)
+      → IsWithProperties X calls wins s (IsNamedAs q.subject) q.properties.subject with_subject
+      → IsActionUnlaid X calls wins with_subject q t → AreUnlaid X calls wins s q t
