@@ -13,6 +13,7 @@
 
 use cedar_commands::{Answer, answer_command};
 use std::env::{Env, FillError};
+use std::io::{IsTerminal, Stderr};
 use std::process::ExitCode;
 use std::rt::Files;
 use std::{env, io};
@@ -23,13 +24,22 @@ pub const REFUSED: u8 = 1;
 pub const OUT_OF_MEMORY: u8 = 3;
 
 fn main(rt: HostRuntime) -> ExitCode {
-    ExitCode::from(run(&rt))
+    let stderr = rt.stderr();
+    let terminal = if stderr.is_terminal() {
+        Some(stderr)
+    } else {
+        None
+    };
+    ExitCode::from(run(&rt, terminal))
 }
 
 // Runs the command that the arguments write, prints what it comes to, and answers the exit status.
-fn run<R: Env + Files + Input + AllocGlobal + Print + Eprint>(rt: &R) -> u8 {
+fn run<R: Env + Files + Input + AllocGlobal + Print + Eprint>(
+    rt: &R,
+    terminal: Option<Stderr>,
+) -> u8 {
     match words(rt) {
-        Ok(words) => print_answer(rt, answer_command(rt, words.as_slice())),
+        Ok(words) => print_answer(rt, answer_command(rt, words.as_slice(), terminal)),
         Err(error) => report_unread(rt, &error),
     }
 }

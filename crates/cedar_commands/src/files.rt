@@ -14,10 +14,12 @@ const INPUT: &str = "-";
 const INPUT_NAME: &str = "standard input";
 
 // The options that name one file.
-const FILE_OPTIONS: [&str; 8] = [
+const FILE_OPTIONS: [&str; 9] = [
     "policies",
+    "resume",
     "template-linked",
     "with",
+    "tests",
     "context",
     "request-json",
     "requests",
@@ -44,11 +46,13 @@ struct StepFiles {
 pub(crate) struct Texts {
     policies: Option<File>,
     with: Option<File>,
+    tests: Option<File>,
     context: Option<File>,
     request: Option<File>,
     requests: Option<File>,
     entities: Option<File>,
     columns: Option<File>,
+    line: Option<File>,
     steps: Vec<StepFiles>,
 }
 
@@ -61,20 +65,24 @@ impl Texts {
     ) -> Result<Texts, Refusal> {
         refuse_second_input(rt.alloc(), matches)?;
         let (policies, with) = all_policies(rt, matches)?;
+        let tests = text_of(rt, matches.get_str("tests"))?;
         let context = text_of(rt, matches.get_str("context"))?;
         let request = text_of(rt, matches.get_str("request-json"))?;
         let requests = text_of(rt, matches.get_str("requests"))?;
         let entities = text_of(rt, matches.get_str("entities"))?;
         let columns = text_of(rt, matches.get_str("sql"))?;
+        let line = text_of(rt, matches.get_str("resume"))?;
         let steps = step_files(rt, matches)?;
         Ok(Texts {
             policies,
             with,
+            tests,
             context,
             request,
             requests,
             entities,
             columns,
+            line,
             steps,
         })
     }
@@ -87,6 +95,11 @@ impl Texts {
     /// The new policies: of no file, if none is named.
     pub(crate) fn new_policies(&self) -> Source<'_> {
         source_or(&self.with, "--with")
+    }
+
+    /// The tests: of no file, if none is named.
+    pub(crate) fn tests(&self) -> Source<'_> {
+        source_or(&self.tests, "FILE")
     }
 
     /// The context, if its file is named.
@@ -115,6 +128,11 @@ impl Texts {
     /// The columns of a table, if their file is named.
     pub(crate) fn columns(&self) -> Option<Source<'_>> {
         source(&self.columns)
+    }
+
+    /// The line that is taken further, if its file is named.
+    pub(crate) fn line(&self) -> Option<Source<'_>> {
+        source(&self.line)
     }
 
     /// The steps, in their order; whether there may be more entities than those of a step, and how many ancestors these

@@ -2,6 +2,7 @@
 use crate::commands::cedar;
 use crate::files::Texts;
 use crate::links::link;
+use crate::relays::{is_relayed, relay};
 use cedar_cli::{
     Asked, ErrorHandling, Printed, Refusal, Source, Step, Way, authorize, authorize_and_explain,
     authorize_each, check_format, check_policies, check_strictly, evaluate_expression,
@@ -9,12 +10,14 @@ use cedar_cli::{
 };
 use cedar_cli_explain::authorize_and_explain_as_json;
 use cedar_cli_sql::plan_as_sql;
+use cedar_cli_tests::run_tests;
 use cedar_policy_core::ast::{Extension, ExtensionFunction, Name};
 use cedar_policy_core::extensions::Extensions;
 use cedar_regression::compare_policies;
 use clap::error::ErrorKind;
 use clap::{ArgMatches, Error};
 use std::alloc::Global;
+use std::io::Stderr;
 use std::rc::RcStr;
 use std::rt::Files;
 
@@ -29,9 +32,14 @@ pub enum Answer {
     OutOfMemory,
 }
 
-/// What the command comes to that these words write, the first of which is the program's name.
-pub fn answer_command<R: Files + Input + AllocGlobal>(rt: &R, words: &[String]) -> Answer {
-    match parse_and_run(rt, words) {
+/// What the command comes to that these words write, the first of which is the program's name. How far a long run is, is told
+/// on the terminal, if there is one.
+pub fn answer_command<R: Files + Input + AllocGlobal>(
+    rt: &R,
+    words: &[String],
+    terminal: Option<Stderr>,
+) -> Answer {
+    match parse_and_run(rt, words, terminal) {
         Ok(printed) => Answer::Printed(printed),
         Err(Refusal::Told(lines)) => Answer::Refused(lines),
         Err(Refusal::Memory) => Answer::OutOfMemory,
@@ -41,10 +49,11 @@ pub fn answer_command<R: Files + Input + AllocGlobal>(rt: &R, words: &[String]) 
 fn parse_and_run<R: Files + Input + AllocGlobal>(
     rt: &R,
     words: &[String],
+    terminal: Option<Stderr>,
 ) -> Result<Printed, Refusal> {
     let command = cedar(rt.alloc())?;
     match command.try_get_matches_from(words) {
-        Ok(matches) => dispatch_command(rt, &matches),
+        Ok(matches) => dispatch_command(rt, &matches, terminal),
         Err(error) => help_or_refusal(rt.alloc(), &error),
     }
 }
@@ -66,9 +75,10 @@ fn help_or_refusal(alloc: Global, error: &Error) -> Result<Printed, Refusal> {
 fn dispatch_command<R: Files + Input + AllocGlobal>(
     rt: &R,
     matches: &ArgMatches<'_>,
+    terminal: Option<Stderr>,
 ) -> Result<Printed, Refusal> {
     match matches.subcommand() {
-        Some((name, matches)) => run(rt, name, matches),
+        Some((name, matches)) => run(rt, name, matches, terminal),
         None => Ok(nothing(rt.alloc())),
     }
 }
@@ -91,12 +101,16 @@ fn run<R: Files + Input + AllocGlobal>(
     rt: &R,
     name: &str,
     matches: &ArgMatches<'_>,
+    terminal: Option<Stderr>,
 ) -> Result<Printed, Refusal> {
     if name == "link" {
         return link(rt, matches);
     }
+    if is_relayed(name, matches) {
+        return relay(rt, matches);
+    }
     let texts = Texts::read(rt, matches)?;
-    let printed = run_with(rt.alloc(), name, matches, &texts);
+    let printed = run_with(rt.alloc(), name, matches, &texts, terminal);
     drop(texts);
     printed
 }
@@ -106,11 +120,20 @@ fn run_with(
     name: &str,
     matches: &ArgMatches<'_>,
     texts: &Texts,
+    terminal: Option<Stderr>,
 ) -> Result<Printed, Refusal> {
     let policies = texts.policies();
     let asked = read_question(matches, texts);
     match name {
         "diff" => compare(alloc, &asked, matches, texts),
+        "run-tests" => run_tests(
+            alloc,
+            policies,
+            &asked,
+            texts.tests(),
+            way(matches),
+            terminal,
+        ),
         "authorize" => decide(alloc, &asked, matches, texts),
         "partially-authorize" => match texts.columns() {
             Some(columns) => plan_with_unknown(alloc, policies, &asked, columns, matches),
@@ -266,8 +289,8 @@ fn plan_with_unknown(
     }
 }
 
-// What the arguments say of the request and of the entities.
-fn read_question<'m, 't>(matches: &ArgMatches<'m>, texts: &'t Texts) -> Asked<'m, 't> {
+/// What the arguments say of the request and of the entities.
+pub(crate) fn read_question<'m, 't>(matches: &ArgMatches<'m>, texts: &'t Texts) -> Asked<'m, 't> {
     Asked {
         principal: matches.get_str("principal"),
         principal_type: matches.get_str("principal-type"),
@@ -282,7 +305,8 @@ fn read_question<'m, 't>(matches: &ArgMatches<'m>, texts: &'t Texts) -> Asked<'m
     }
 }
 
-fn way(matches: &ArgMatches<'_>) -> Way {
+/// In which way it is answered.
+pub(crate) fn way(matches: &ArgMatches<'_>) -> Way {
     Way {
         error_handling: error_handling(matches.get_str("error-handling")),
         limit: limit(matches),

@@ -25,7 +25,7 @@ pub(crate) fn is_same(old: &Answer, new: &Answer) -> bool
 }
 
 /// Whether the decisions are the same.
-pub(crate) fn is_same_decision(old: Decision, new: Decision) -> bool
+pub fn is_same_decision(old: Decision, new: Decision) -> bool
     ensures { result ≡ is_same_decision (decision_view old) (decision_view new) }
 {
     match old {
@@ -65,8 +65,8 @@ pub(crate) fn difference_to_json(
     Ok(JsonValue::Object(members))
 }
 
-/// The count, or the greatest integer of 64 bits.
-pub(crate) fn count_to_json(count: usize) -> JsonValue
+/// The count, or the greatest integer of 64 bits, where it is greater.
+pub fn count_to_json(count: usize) -> JsonValue
     ensures { json_view result ≡ count_json count }
 {
     match i64::try_from(count) {
@@ -93,8 +93,8 @@ fn each_only(alloc: Global, old: &[String], new: &[String]) -> Result<JsonValue,
     pair_to_json(alloc, "old", of_old, "new", of_new)
 }
 
-/// An object of two members.
-pub(crate) fn pair_to_json(
+/// An object of these two members. Refuses only if out of memory.
+pub fn pair_to_json(
     alloc: Global,
     first_key: &str,
     first: JsonValue,

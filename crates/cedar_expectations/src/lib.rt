@@ -10,6 +10,9 @@
 //! doesn't have; then a line is printed which says both decisions, and of reasons and errors those that one answer has
 //! alone (`compare`, over `compared` of `specs/Compared.antt` and `difference_json` of `specs/Differences.antt`). The
 //! order in which reasons and errors stand, and how often each does, make no difference.
+//!
+//! What compares decisions and lists is public too, for crates that hold answers against something else: `is_same_decision`,
+//! `have_same`, `only_in`, and as JSON `count_to_json` and `pair_to_json`.
 #![tactic(auto)]
 
 mod answers;
@@ -20,4 +23,6 @@ mod names;
 
 pub use answers::Answer;
 pub use comparisons::{Comparison, Comparisons, compare};
+pub use differences::{count_to_json, is_same_decision, pair_to_json};
+pub use lists::{have_same, only_in};
 pub use names::answer_in;

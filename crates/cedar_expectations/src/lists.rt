@@ -10,12 +10,8 @@ ghost use Rattle.cedar_expectations.specs.Lists.{unless_in, only_in, has_more, h
 use cedar_json_writer::{JsonValue, put_item, text_to_json};
 use std::alloc::{AllocError, Global};
 
-/// The texts that the others don't have, as an array in their order.
-pub(crate) fn only_in(
-    alloc: Global,
-    texts: &[String],
-    others: &[String],
-) -> Result<JsonValue, AllocError>
+/// The texts that the others don't have, as an array in their order. Refuses only if out of memory.
+pub fn only_in(alloc: Global, texts: &[String], others: &[String]) -> Result<JsonValue, AllocError>
     ensures { IfOk result
         (λ j. json_view j ≡ texts_json (only_in (map string_bytes texts.now) (map string_bytes others.now))) }
 {
@@ -79,7 +75,7 @@ fn has_more(texts: &[String], others: &[String]) -> bool
 }
 
 /// Whether each list has all texts of the other.
-pub(crate) fn have_same(texts: &[String], others: &[String]) -> bool
+pub fn have_same(texts: &[String], others: &[String]) -> bool
     ensures { result ≡ have_same (map string_bytes texts.now) (map string_bytes others.now) }
 {
     !has_more(texts, others) && !has_more(others, texts)

@@ -43,8 +43,8 @@ pub(crate) fn both_answers(
     Ok(Both { old, new })
 }
 
-/// What the policies answer to the request that is asked.
-pub(crate) fn answer_of(
+/// What the policies answer to the request that is asked. Refused where it can't be read.
+pub fn answer_of(
     alloc: Global,
     policies: &PolicySet,
     entities: &Entities,

@@ -15,4 +15,5 @@
 mod answers;
 mod comparisons;
 
+pub use answers::answer_of;
 pub use comparisons::compare_policies;

@@ -107,7 +107,7 @@ fn is_wanted(line: &str) -> bool {
 // What the run comes to, written so.
 fn run_line<R: Files + Input + AllocGlobal>(rt: &R, line: &str) -> Result<String, AllocError> {
     let words = words_of(rt.alloc(), line)?;
-    let answer = answer_command(rt, words.as_slice());
+    let answer = answer_command(rt, words.as_slice(), None);
     let written = write_answer(rt.alloc(), &answer);
     drop(answer);
     written

@@ -1,0 +1,3 @@
+pub mod Tested
+pub mod Texts
+pub mod Results

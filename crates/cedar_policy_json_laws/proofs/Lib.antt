@@ -1,0 +1,3 @@
+pub mod Leaves
+pub mod Levels
+pub mod Annotations

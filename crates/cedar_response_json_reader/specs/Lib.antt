@@ -1,0 +1,11 @@
+pub mod Contexts
+pub mod Errors
+pub mod Extensions
+pub mod Held
+pub mod JsonTexts
+pub mod Refusals
+pub mod Requests
+pub mod Responses
+pub mod Rows
+pub mod Shapes
+pub mod Sheets
