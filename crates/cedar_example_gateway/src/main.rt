@@ -17,15 +17,14 @@ mod report;
 mod stages;
 mod stop;
 
-use asked::{Asked, REQUESTS, which_chart, whole};
+use asked::{Asked, REQUESTS, whole};
 use cedar_policy_core::ast::PolicySet;
 use cedar_policy_core::authorizer::Authorizer;
 use cedar_policy_core::entities::json::entities_from_json_str;
 use cedar_policy_core::entities::{Entities, close_hierarchy, close_hierarchy_partially};
 use cedar_policy_core::extensions::Extensions;
 use cedar_policy_core::parser::{Functions, parse_policies};
-use report::print_known;
-use stages::{Stage, edge, for_the_backend, line, read, taken_further};
+use stages::{Stage, backend, edge, region};
 use std::alloc::Global;
 use std::process::ExitCode;
 use std::rt::Files;
@@ -96,24 +95,13 @@ fn decide<R: AllocGlobal + Print>(
     at_backend: &Stage<'_>,
 ) -> Result<(), Stop> {
     let alloc = rt.alloc();
-    let first = edge(alloc, at_edge, policies, asked)?;
-    print_known(rt, "edge", first.response())?;
-    let first_line = line(alloc, at_edge, first.response())?;
-    println!(rt; "    {}", first_line.as_str())?;
-    let before = read(alloc, at_region, first_line.as_str())?;
-    let chart = which_chart(alloc, asked)?;
-    let second = taken_further(alloc, at_region, before, &chart)?;
-    print_known(rt, "region", second.response())?;
-    let second_line = line(alloc, at_region, second.response())?;
-    println!(rt; "    {}", second_line.as_str())?;
-    let before = read(alloc, at_backend, second_line.as_str())?;
-    let values = for_the_backend(alloc, &before, asked)?;
-    let third = taken_further(alloc, at_backend, before, &values)?;
-    print_known(rt, "backend", third.response())?;
+    let line = edge(rt, at_edge, policies, asked)?;
+    let line = region(rt, at_region, line.as_str(), asked)?;
+    let decision = backend(rt, at_backend, line.as_str(), asked)?;
     let authorizer = Authorizer::new(at_backend.extensions, LEVELS);
     let request = whole(alloc, asked)?;
     let at_once = authorizer.is_authorized(alloc, request, policies, at_backend.store)?;
-    let is_same = match third.decision() {
+    let is_same = match decision {
         Some(decision) => decision == at_once.decision,
         None => false,
     };

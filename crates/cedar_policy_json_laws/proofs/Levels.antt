@@ -21,7 +21,7 @@ use Rattle.cedar_policy_json_reader.specs.Names.{TwoPart, plain, conjunction, di
 use Rattle.cedar_policy_json_reader.specs.Paths.{at_key, at_index}
 use Rattle.cedar_policy_json_reader.specs.Refusals.{Said, refused, refused_there, under, before, both_said, made_of, and_then}
 use Rattle.cedar_policy_json_reader.specs.Words.{is_name}
-use Rattle.cedar_policy_json_reader.proofs.Longs.{long_read}
+use Rattle.cedar_json_reader.proofs.Longs.{long_read}
 use Rattle.cedar_policy_json_writer.specs.Expressions.{expression_json, items_json, members_json, two_operands}
 use Rattle.cedar_policy_json_writer.specs.Names.{unary_name, binary_name}
 use Rattle.cedar_policy_json_laws.specs.Back.{IsReadableLiteral, IsReadableType, IsNoOperator, MayBeCalled, count_of, pairs_of, AllAre, AllAreAt, AreInOrder, IsReadableOver, IsReadable, ExpressionReadsBack}
@@ -164,8 +164,8 @@ module _ (c : Around) (says : Reading) (P : Term → Type 0) (part : (t : Term) 
   called_back known.Nothing f ts may h = absurd may
 
   call_back : (f : Text) (ts : Terms) → IsNoOperator f → MayBeCalled (known_of c.known f) f (count_of ts) → AllAre P ts → level_said c says (expression_json no_slots (call f ts)) ≡ Ok (call f ts)
-  call_back f ts no may h =
-      ap (under (at_key f)) (no_operator f (array (items_json no_slots ts)) no ∙ called_back (known_of c.known f) f ts may h)
+  call_back f ts apart may h =
+      ap (under (at_key f)) (no_operator f (array (items_json no_slots ts)) apart ∙ called_back (known_of c.known f) f ts may h)
 
   -- ---- all kinds
 

@@ -64,8 +64,8 @@ one_condition says t h =
 
 -- no condition where it is `true`
 condition : (says : Reading) (t : Term) → says (expression_json no_slots t) ≡ Ok t → is_truth t ≡ false → conditions_said says (array (items_of (cond (is_truth t) [] (when_json no_slots t ∷ [])))) ≡ Ok t
-condition says t h not =
-    ap (λ (b : Bool). conditions_said says (array (items_of (cond b [] (when_json no_slots t ∷ []))))) not ∙ one_condition says t h
+condition says t h apart =
+    ap (λ (b : Bool). conditions_said says (array (items_of (cond b [] (when_json no_slots t ∷ []))))) apart ∙ one_condition says t h
 
 -- ---- the policy
 
@@ -76,11 +76,11 @@ effect_back : (e : Effect) → effect_said (string (effect_text e)) ≡ Ok e
 effect_back permit = refl
 effect_back forbid = refl
 
-module _ (fs : Knowledge) (n : ℕ) (no : ReadsBack fs n (literal (bool_literal false))) (id : Text) (e : Effect) where
+module _ (fs : Knowledge) (n : ℕ) (falsity : ReadsBack fs n (literal (bool_literal false))) (id : Text) (e : Effect) where
   conditions_back : (ps : List (Text × Text)) (rep : Reported) → ReportReadsBack fs n rep → conditions_said (expression_said fs n) (conditions_json (policy_of_row (record { id = id; effect = e; annotations = ps; reported = rep }))) ≡ Ok (clause_of rep)
   unfolding clause_of
   conditions_back ps reported_true h = refl
-  conditions_back ps (reported_false b) h = condition (expression_said fs n) (literal (bool_literal false)) no refl
+  conditions_back ps (reported_false b) h = condition (expression_said fs n) (literal (bool_literal false)) falsity refl
   conditions_back ps (reported_residual t) h = condition (expression_said fs n) t h.0 (not_truth t h.1)
 
   policy_back : (ps : List (Text × Text)) (rep : Reported) → AnnotationsReadBack ps → ReportReadsBack fs n rep
@@ -128,18 +128,18 @@ module _ (fs : Knowledge) (n : ℕ) where
       ap (λ (b : Bool). if b then Ok (report_of r.reported, policy_of_row r) else refused reasons.NotAsReported) (fits_back r.reported h)
 
   row_back : ReadsBack fs n (literal (bool_literal false)) → (r : Row) → RowReadsBack fs n r → row_said fs n (row_json r) ≡ Ok r
-  row_back no r h =
+  row_back falsity r h =
       (λ i. made_of row_of (and_then (λ p. under (at_key (codes "policy")) (carried_on p))
       (both_said (under (at_key (codes "reported")) (report_back r.reported i))
-      (under (at_key (codes "policy")) (of_policies (policy_back fs n no r.id r.effect r.annotations r.reported h.0 h.1 i))))))
+      (under (at_key (codes "policy")) (of_policies (policy_back fs n falsity r.id r.effect r.annotations r.reported h.0 h.1 i))))))
       ∙ ap (λ (s : Said (Report × PolicyView)). made_of row_of (under (at_key (codes "policy")) s)) (carried_back r h.1)
       ∙ ap (λ (rep : Reported). Ok (record { id = r.id; effect = r.effect; annotations = r.annotations; reported = rep })) (reported_back r.reported)
 
   rows_back : ReadsBack fs n (literal (bool_literal false)) → (k : ℕ) (rs : List Row) → RowsReadBack fs n rs → rows_from fs n k (items_of (map row_json rs)) ≡ Ok rs
-  rows_back no k [] h = refl
-  rows_back no k (r ∷ rs) h = λ i. before (under (at_index k) (row_back no r h.0 i)) (rows_back no (k + 1) rs h.1 i)
+  rows_back falsity k [] h = refl
+  rows_back falsity k (r ∷ rs) h = λ i. before (under (at_index k) (row_back falsity r h.0 i)) (rows_back falsity (k + 1) rs h.1 i)
 
   pub all_back : ReadsBack fs n (literal (bool_literal false)) → (rs : List Row) → RowsReadBack fs n rs → first_repeated (map (λ x. x.id) rs) ≡ None → rows_said fs n (rows_json rs) ≡ Ok rs
-  all_back no rs h apart =
-      ap (λ (s : Said (List Row)). and_then all_once s) (rows_back no 0 rs h)
+  all_back falsity rs h apart =
+      ap (λ (s : Said (List Row)). and_then all_once s) (rows_back falsity 0 rs h)
       ∙ ap (λ (o : Option Text). once o rs) apart

@@ -147,10 +147,10 @@ module _ (r read : PartialResponse) where
       → (request_view (request_of read)).context_part ≡ (request_view (request_of r)).context_part → ComesBack r read
   of_json fs n names j x calls can h ts told es p said is_read context_is =
       let request = request_view (request_of r) in
-      let no = false_reads fs n (partial_term (variable_part request principal)) can.request_reads.principal_reads in
+      let falsity = false_reads fs n (partial_term (variable_part request principal)) can.request_reads.principal_reads in
       let back : response_said fs n names j ≡ Ok (told_of (mode_of r) request (rows_view r) ts) =
-          ap (response_said fs n names) h.2
-          ∙ whole_back fs n (mode_of r) names request (rows_view r) h.0 ts can.request_reads (all_back fs n no (rows_view r) can.rows_read can.ids_differ) es in
+      ap (response_said fs n names) h.2
+      ∙ whole_back fs n (mode_of r) names request (rows_view r) h.0 ts can.request_reads (all_back fs n falsity (rows_view r) can.rows_read can.ids_differ) es in
       let is : p ≡ told_of (mode_of r) request (rows_view r) ts = ok_same (response_said fs n names j) p (told_of (mode_of r) request (rows_view r) ts) said back in
       comes_back x calls n ts told (subst (λ (q : Told). IsRead x calls n q read) is is_read) context_is
 
