@@ -5,4 +5,5 @@ pub mod Lists
 pub mod Longs
 pub mod Levels
 pub mod Annotated
+pub mod Repeats
 pub mod TextLemmas

@@ -11,5 +11,6 @@ pub mod Scopes
 pub mod Policies
 pub mod Annotations
 pub mod Lists
+pub mod Repeats
 pub mod JsonTexts
 pub mod ErrorTexts

@@ -73,7 +73,7 @@ pub enum RefusalReason {
 /// Why JSON was not read.
 #[derive(Debug, Drop)]
 pub enum PolicyJsonError {
-    /// The text is no JSON, or nests deeper than 128 levels.
+    /// The text is no JSON, or nests deeper than it may.
     Syntax,
     /// The text is JSON, and an object of it has a key twice.
     DuplicateKey,

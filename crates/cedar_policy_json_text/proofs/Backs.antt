@@ -4,7 +4,7 @@ use Rattle.cedar_model.specs.Terms.{Text}
 use Rattle.cedar_functions.specs.Functions.{Knowledge}
 use Rattle.cedar_text_parser.specs.declared.policies.ParsedPolicies.{ParsedPolicies}
 use Rattle.cedar_text_parser.specs.PolicyReading.{AreAllRead}
-use Rattle.cedar_policy_json_reader.specs.JsonTexts.{Says}
+use Rattle.cedar_policy_json_reader.specs.JsonTexts.{depth_for, Says}
 use Rattle.cedar_policy_set_reader.specs.PolicySets.{PolicySetView, policy_set_said}
 use Rattle.cedar_policy_json_text.specs.declared.errors.PolicyTextError.{PolicyTextError}
 use Rattle.cedar_policy_json_text.specs.declared.errors.PolicyTextError.TheVariants as errors
@@ -16,7 +16,7 @@ pub backs_if : (k : Knowledge) (limit : ℕ) (s : PolicySetView) (text : Text) (
 backs_if k limit s text parsed true read h = record { parsed = parsed; read = read; kept = sym h }
 backs_if k limit s text parsed false read h = tt
 
-pub text_said : (k : Knowledge) (limit : ℕ) (json text : Text) (s : PolicySetView) → Says json (policy_set_said k limit) s → ReadsBack k limit s text → IsTextOf k limit json text
+pub text_said : (k : Knowledge) (limit : ℕ) (json text : Text) (s : PolicySetView) → Says (depth_for limit) json (policy_set_said k limit) s → ReadsBack k limit s text → IsTextOf k limit json text
 text_said k limit json text s said back = record { set = s; said = said; back = back }
 
 pub own_untold : (k : Knowledge) (limit : ℕ) (json : Text) (e : PolicyTextError) → IsOwn e → IsUntold k limit json e

@@ -11,7 +11,7 @@ use Rattle.cedar_layers.specs.declared.policies.policy.Policy.{Policy}
 use Rattle.cedar_text_parser.specs.declared.policies.ParsedPolicies.{ParsedPolicies}
 use Rattle.cedar_text_parser.specs.PolicyReading.{AreAllRead}
 use Rattle.cedar_unsatisfiable.specs.Alike.{say_the_same}
-use Rattle.cedar_policy_json_reader.specs.JsonTexts.{Says, IsTextRefusal}
+use Rattle.cedar_policy_json_reader.specs.JsonTexts.{depth_for, Says, IsTextRefusal}
 use Rattle.cedar_policy_set_reader.specs.PolicySets.{PolicySetView, policy_set_said}
 use Rattle.cedar_policy_json_text.specs.Placed.{placed_view, without_linked}
 use Rattle.cedar_policy_json_text.specs.declared.errors.PolicyTextError.{PolicyTextError}
@@ -67,18 +67,18 @@ pub record ReadsBack (k : Knowledge) (limit : ℕ) (s : PolicySetView) (text : T
 -- the JSON says policies as which the text is read
 pub record IsTextOf (k : Knowledge) (limit : ℕ) (json text : Text) : Type 0 where
   pub set : PolicySetView
-  pub said : Says json (policy_set_said k limit) set
+  pub said : Says (depth_for limit) json (policy_set_said k limit) set
   pub back : ReadsBack k limit set text
 
 -- the same without the templates that have links
 pub record IsDecidingTextOf (k : Knowledge) (limit : ℕ) (json text : Text) : Type 0 where
   pub set : PolicySetView
-  pub said : Says json (policy_set_said k limit) set
+  pub said : Says (depth_for limit) json (policy_set_said k limit) set
   pub back : ReadsBack k limit (without_linked set) text
 
 -- why JSON can't be read is why the reader of JSON refuses it
 abbrev pub IsUntold : Knowledge → ℕ → Text → PolicyTextError → Type 0
-IsUntold k limit json (errors.Unread error) = IsTextRefusal json (policy_set_said k limit) error
+IsUntold k limit json (errors.Unread error) = IsTextRefusal (depth_for limit) json (policy_set_said k limit) error
 IsUntold k limit json (errors.NoText id) = ⊤
 IsUntold k limit json (errors.AnotherName id) = ⊤
 IsUntold k limit json (errors.Memory error) = ⊤

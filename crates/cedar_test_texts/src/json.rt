@@ -8,8 +8,10 @@
 //!   are any;
 //! - `evaluated`: the same entities evaluated, without what they are in: `UID {"KEY": VALUE, ..}`, and ` tags {..}`;
 //! - `store`: which of the entities each of them is in, where parents are followed: `UID in [UID, ..]`;
-//! - `partial`: the same where there may be more entities: `UID in [UID, ..]`, or `UID is left out`.
+//! - `partial`: the same where there may be more entities: `UID in [UID, ..]`, or `UID is left out`;
+//! - `added`, `overlaid` and `overlaid winning`: stores with what a request brings (`overlaid`).
 use crate::answer::Answer;
+use crate::overlaid::{ask_added, ask_overlaid};
 use cedar_extensions::Extensions;
 use cedar_hierarchy::{ClosureError, PartialClosure, close_hierarchy, close_hierarchy_partially};
 use cedar_json_reader::{
@@ -40,6 +42,9 @@ pub fn ask_json(answer: &mut Answer, question: &str, text: &str) {
         "evaluated" => ask_evaluated(answer, text),
         "store" => ask_store(answer, text),
         "partial" => ask_partial_store(answer, text),
+        "added" => ask_added(answer, text),
+        "overlaid" => ask_overlaid(answer, text, false),
+        "overlaid winning" => ask_overlaid(answer, text, true),
         _ => answer.refuse("no such question"),
     }
 }
@@ -190,7 +195,8 @@ fn put_all_evaluated(answer: &mut Answer, entities: &[Entity]) {
     answer.put_if_none("none");
 }
 
-fn put_evaluated(answer: &mut Answer, entity: &Entity) {
+/// Writes the entity with its attributes and tags.
+pub fn put_evaluated(answer: &mut Answer, entity: &Entity) {
     answer.show(entity.uid());
     put_attributes(answer, entity);
     if entity.tags_len() > 0 {

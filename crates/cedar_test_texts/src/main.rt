@@ -1,12 +1,13 @@
 //! Reads the texts in the rows of the tables that are named, and compares what they are read as with what is wanted.
 //! Prints each row that is read otherwise, and a line `FILE: HELD of ROWS rows hold` a file. Behind the word
-//! `--written` each text is read, written in Cedar's own syntax, and what is written is to be read as the text was.
+//! `--written` each text is read, written in Cedar's own syntax, and what is written is to be read as the text was;
+//! behind `--json` the policies of the rows go to JSON and back, and to text and JSON.
 //!
 //! - `rows`, `signs`, `questions`, `answer`: tables, texts in rows, what is asked of a text, and what is answered.
 //! - `trees`, `places`, `policies`: expressions as trees, where their nodes are, and policies.
-//! - `json`: what is asked of texts in JSON. `known`: what is read where only the function `unknown` is known.
+//! - `json`: what is asked of texts in JSON; `overlaid`: stores with what a request brings. `known`: what is read where only the function `unknown` is known.
 //!   `told`: what an error says without the text.
-//! - `written`: texts that are read, written and asked again. `samples`, `built`: policies that are made in code, as
+//! - `returned`: policies of rows that go to JSON and back. `written`: texts that are read, written and asked again. `samples`, `built`: policies that are made in code, as
 //!   text.
 //!
 //! The promise is the checker's alone: the program stays within its memory and comes to an end. How many rows hold is
@@ -17,9 +18,11 @@ mod answer;
 mod built;
 mod json;
 mod known;
+mod overlaid;
 mod places;
 mod policies;
 mod questions;
+mod returned;
 mod rows;
 mod samples;
 mod signs;
@@ -28,6 +31,7 @@ mod trees;
 mod written;
 
 use answer::Unanswered;
+use returned::table_returns;
 use rows::file_holds;
 use std::env;
 use std::env::Env;
@@ -61,13 +65,34 @@ fn files_hold<R: Env + Files + AllocGlobal + Print>(rt: &R) -> Result<bool, Unan
     let mut files = env::args(rt)?;
     drop(files.next());
     let mut all_hold = true;
-    let mut written = false;
+    let mut way = Way::Read;
     'files: for file in files {
-        if file.as_str() == "--written" {
-            written = true;
-        } else if !file_holds(rt, file.as_str(), written)? {
-            all_hold = false;
+        match file.as_str() {
+            "--written" => way = Way::Written,
+            "--json" => way = Way::AsJson,
+            name => if !holds(rt, name, way)? {
+                all_hold = false;
+            },
         }
     }
     Ok(all_hold)
+}
+
+// What is done with the texts of a table.
+#[derive(Clone, Copy)]
+enum Way {
+    // They are read.
+    Read,
+    // They are written, and read again.
+    Written,
+    // Their policies go to JSON and back.
+    AsJson,
+}
+
+fn holds<R: Files + AllocGlobal + Print>(rt: &R, file: &str, way: Way) -> Result<bool, Unanswered> {
+    match way {
+        Way::Read => file_holds(rt, file, false),
+        Way::Written => file_holds(rt, file, true),
+        Way::AsJson => table_returns(rt, file),
+    }
 }
