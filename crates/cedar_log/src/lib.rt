@@ -1,0 +1,27 @@
+//! A log of what a service over HTTP decides: a line of JSON for each decision, written before the answer is handed out.
+//!
+//! - `logged`: `Logged`, a service with a log, which any `Write` can be. `serving`: `serve_logged`, one connection of it.
+//! - `logs`: `Log`, to which lines are appended whole, or none from then on.
+//! - `exchanges`: which lines tell what a response hands out. `lines`: the line of one decision. `stamps`: the version and
+//!   the id that each names. `parts`: where a document has what is told. `texts`: JSON as text.
+//!
+//! The promise, of `Logged` (`specs/Logs`): the service behind it answers as it does without a log, and each answer is
+//! handed out once the lines of the decisions in it stand behind what the log had; or they could not be written, and then
+//! 500 is sent and no decision. A line says what was decided as Cedar's own request, the answer, the version, and the
+//! request's id (`specs/Lines`).
+//!
+//! It takes from a service no more than its answers: what is told are the bodies of a request and of the response to it.
+#![tactic(auto)]
+
+mod exchanges;
+mod lines;
+mod logged;
+mod logs;
+mod parts;
+mod serving;
+mod stamps;
+mod texts;
+
+pub use logged::Logged;
+pub use logs::Log;
+pub use serving::serve_logged;
