@@ -1,2 +1,6 @@
 mod Views
 mod Numbers
+mod Carried
+mod Items
+mod Telling
+mod Chained

@@ -1,7 +1,7 @@
 -- The line of a log that tells a decision.
-use Rattle.std.specs.Prelude.{◌≡◌, ⊤, Bool, true, false, ℕ, List, [], ◌++◌, Option, Some, None, if◌then◌else◌, codes}
+use Rattle.std.specs.Prelude.{◌≡◌, ⊤, ◌==◌, Bool, false, ℕ, suc, List, [], ◌++◌, Option, Some, None, if◌then◌else◌, codes}
 use Rattle.std.specs.Option.{option_or}
-use Rattle.json.specs.Json.{Json, null, boolean, number, string, array, object, no_members, member}
+use Rattle.json.specs.Json.{Json, null, boolean, number, string, array, object, Members, no_members, member}
 use Rattle.json.specs.Find.{get, at}
 use Rattle.json.specs.Print.{print}
 use Rattle.json.specs.Tree.{json_tokens, HasNumbers}
@@ -46,14 +46,17 @@ nth n (Some j) = at n j
 abbrev pub part : Text → Option Json → Json → Option Json
 part name item whole = option_or (within name item) (get name whole)
 
+abbrev pub member_count : Members → ℕ
+member_count no_members = 0
+member_count (member k j ms) = suc (member_count ms)
+
 abbrev pub is_empty_object : Json → Bool
 is_empty_object null = false
 is_empty_object (boolean b) = false
 is_empty_object (number s) = false
 is_empty_object (string s) = false
 is_empty_object (array js) = false
-is_empty_object (object no_members) = true
-is_empty_object (object (member k j ms)) = false
+is_empty_object (object ms) = member_count ms == 0
 
 -- but an object that has nothing
 abbrev pub given : Option Json → Option Json
@@ -85,13 +88,21 @@ abbrev pub context_text : Option Json → Text
 context_text None = codes "{}"
 context_text (Some j) = json_text j
 
-abbrev pub request_text : Option Json → Json → Text
-request_text item whole =
+-- who does what
+abbrev pub who_text : Option Json → Json → Text
+who_text item whole =
     codes "{\"principal\":" ++ (entity_text (part (codes "subject") item whole) ++ (codes ",\"action\":"
-    ++ (action_text (part (codes "action") item whole) ++ (codes ",\"resource\":"
-    ++ (entity_text (part (codes "resource") item whole) ++ (codes ",\"context\":"
+    ++ action_text (part (codes "action") item whole)))
+
+-- and to what, in which context, with which entities
+abbrev pub what_text : Option Json → Json → Text
+what_text item whole =
+    codes ",\"resource\":" ++ (entity_text (part (codes "resource") item whole) ++ (codes ",\"context\":"
     ++ (context_text (part (codes "context") item whole)
-    ++ (optional_text (codes ",\"entities\":") (part (codes "entities") item whole) ++ codes "}"))))))))
+    ++ (optional_text (codes ",\"entities\":") (part (codes "entities") item whole) ++ codes "}"))))
+
+abbrev pub request_text : Option Json → Json → Text
+request_text item whole = who_text item whole ++ what_text item whole
 
 -- ---- lines
 

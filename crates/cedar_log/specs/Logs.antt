@@ -62,8 +62,8 @@ pub data AreHandedOut : List Call → List Call → Text → Type 0 where
       → AreHandedOut ((q, p) ∷ due) ((q, no) ∷ sent) more
 
 -- The service behind the log answers as it does without, and each answer is handed out, or withheld. Behind what the log
--- had stand the lines of those that were handed out, and then nothing, but where it was withheld for some bytes that
--- could not be written whole.
+-- had stand the lines of those that were handed out, in their order; and then nothing, or, where something could not be
+-- written whole, at most some bytes of that. To a log of which something was lost nothing more is written.
 pub record AreLogged {S L : Type 0} (answers : S → Request (List ℕ) → Response → S → Type 0) (contents : L → Known)
     (before : Logged S L) (calls : List Call) (after : Logged S L) : Type 0 where
   pub due : List Call
@@ -72,5 +72,17 @@ pub record AreLogged {S L : Type 0} (answers : S → Request (List ℕ) → Resp
   pub handed_out : AreHandedOut due calls lines
   pub some : Text
   pub appended : Appends (contents before.log.writer) (contents after.log.writer) (lines ++ some)
-  pub whole : after.log.is_broken ≡ false → some ≡ []
-  pub none : before.log.is_broken ≡ true → lines ++ some ≡ []
+  pub all_whole : after.log.is_broken ≡ false → some ≡ []
+  pub lost : before.log.is_broken ≡ true → (lines ++ some ≡ []) × (after.log.is_broken ≡ true)
+
+-- ---- for private clauses
+
+-- what is due stays, or it is withheld
+abbrev pub IsKeptOr : Bool → Response → Response → Type 0
+IsKeptOr true due p = p ≡ due
+IsKeptOr false due p = IsWithheld p
+
+-- the lines are appended and what is due stays, or it is withheld
+abbrev pub TellsOrWithholds : {L : Type 0} → (L → Known) → Text → Response → Response → Log L → Log L → Type 0
+TellsOrWithholds contents lines due p before after =
+    (whole : Bool) × IsAppended contents lines before after whole × IsKeptOr whole due p

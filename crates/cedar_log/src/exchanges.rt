@@ -1,10 +1,10 @@
 #![tactic(auto, using(crate::proofs::Views::views, crate::proofs::Numbers::numbers))]
 //! Which lines tell what a response hands out.
-ghost use Rattle.std.specs.Prelude.{◌≡◌, None, IfOk, IfSome, option_map, string_bytes};
+ghost use Rattle.std.specs.Prelude.{◌≡◌, Some, None, IfOk, IfSome, option_map, string_bytes};
 ghost use Rattle.json.specs.Find.{get, as_array};
 ghost use Rattle.json.specs.Tree.{HasNumbers};
 ghost use Rattle.json.specs.Value.{value_view};
-ghost use Rattle.cedar_log.specs.Lines.{HaveNumbers, json_text, decision_line, other_line};
+ghost use Rattle.cedar_log.specs.Lines.{HaveNumbers, nth, json_text, found_text, decision_line, other_line};
 ghost use Rattle.cedar_log.specs.Exchanges.{hands_out, AreLines, AreLinesFor, AreLinesOf, exchange_text};
 ghost use Rattle.cedar_log.specs.Exchanges.{single_text, several_text, listed_text, items_text, item_text};
 
@@ -316,32 +316,35 @@ fn items_text<'v, 'a>(
 {
     let mut lines = String::new(alloc);
     'items: for index in 0..count {
-        let line = item_text(
-            alloc,
-            stamp,
-            all,
-            nth(asked, index),
-            nth(Some(answers), index),
-        )?;
+        let line = item_text(alloc, stamp, all, asked, answers, index)?;
         lines.push_str(line.as_str())?;
     }
     Ok(lines)
 }
 
+// That of the item at this place.
 fn item_text<'v, 'a>(
     alloc: Global,
     stamp: &str,
     all: &'v Value<'a>,
     asked: Option<&'v Value<'a>>,
-    answer: Option<&Value<'_>>,
+    answers: &Value<'_>,
+    index: usize,
 ) -> Result<String, AllocError>
     requires all { HasNumbers (value_view all.now) }
     requires asked { HaveNumbers (option_map (λ v. value_view v.now) asked) }
-    requires answer { HaveNumbers (option_map (λ v. value_view v.now) answer) }
+    requires answers { HasNumbers (value_view answers.now) }
     ensures { IfOk result (λ s. string_bytes s ≡ item_text stamp.now (value_view all.now)
-        (option_map (λ v. value_view v.now) asked.entry) (option_map (λ v. value_view v.now) answer.entry)) }
+        (nth index (option_map (λ v. value_view v.now) asked.entry)) (nth index (Some (value_view answers.now)))) }
 {
-    let request = request_text(alloc, asked, all)?;
-    let answer = found_text(alloc, answer)?;
+    let request = request_text(alloc, nth(asked, index), all)?;
+    let answer = answer_text(alloc, answers, index)?;
     decision_line(alloc, stamp, request.as_str(), answer.as_str())
+}
+
+fn answer_text(alloc: Global, answers: &Value<'_>, index: usize) -> Result<String, AllocError>
+    requires { HasNumbers (value_view answers.now) }
+    ensures { IfOk result (λ s. string_bytes s ≡ found_text (nth index (Some (value_view answers.now)))) }
+{
+    found_text(alloc, nth(Some(answers), index))
 }

@@ -1,9 +1,10 @@
 //! The line of one decision.
-ghost use Rattle.std.specs.Prelude.{◌≡◌, IfOk, option_map, string_bytes};
+ghost use Rattle.std.specs.Prelude.{◌≡◌, IfOk, option_map, codes, string_bytes};
 ghost use Rattle.json.specs.Tree.{HasNumbers};
 ghost use Rattle.json.specs.Value.{value_view};
 ghost use Rattle.cedar_log.specs.Lines.{HaveNumbers, properties_text, entity_text, action_text, context_text};
-ghost use Rattle.cedar_log.specs.Lines.{request_text, stamp_text, decision_line, other_line};
+ghost use Rattle.cedar_log.specs.Lines.{part, optional_text, who_text, what_text, request_text, stamp_text, decision_line};
+ghost use Rattle.cedar_log.specs.Lines.{other_line};
 
 use crate::parts::{given, part, within};
 use crate::texts::{found_text, optional_quoted, optional_text, quoted, value_text};
@@ -70,19 +71,98 @@ pub(crate) fn request_text<'v, 'a>(
     ensures { IfOk result (λ s. string_bytes s ≡
         request_text (option_map (λ v. value_view v.now) item.entry) (value_view whole.now)) }
 {
-    let principal = entity_text(alloc, part(item, whole, "subject"))?;
-    let action = action_text(alloc, part(item, whole, "action"))?;
-    let resource = entity_text(alloc, part(item, whole, "resource"))?;
-    let context = context_text(alloc, part(item, whole, "context"))?;
-    let entities = optional_text(alloc, ",\"entities\":", part(item, whole, "entities"))?;
+    let who = who_text(alloc, item, whole)?;
+    let what = what_text(alloc, item, whole)?;
+    format!(in alloc; "{who}{what}")
+}
+
+fn who_text<'v, 'a>(
+    alloc: Global,
+    item: Option<&'v Value<'a>>,
+    whole: &'v Value<'a>,
+) -> Result<String, AllocError>
+    requires item { HaveNumbers (option_map (λ v. value_view v.now) item) }
+    requires whole { HasNumbers (value_view whole.now) }
+    ensures { IfOk result (λ s. string_bytes s ≡
+        who_text (option_map (λ v. value_view v.now) item.entry) (value_view whole.now)) }
+{
+    let principal = entity_in(alloc, item, whole, "subject")?;
+    let action = action_in(alloc, item, whole)?;
     let open = "{\"principal\":";
     let done = ",\"action\":";
+    format!(in alloc; "{open}{principal}{done}{action}")
+}
+
+fn what_text<'v, 'a>(
+    alloc: Global,
+    item: Option<&'v Value<'a>>,
+    whole: &'v Value<'a>,
+) -> Result<String, AllocError>
+    requires item { HaveNumbers (option_map (λ v. value_view v.now) item) }
+    requires whole { HasNumbers (value_view whole.now) }
+    ensures { IfOk result (λ s. string_bytes s ≡
+        what_text (option_map (λ v. value_view v.now) item.entry) (value_view whole.now)) }
+{
+    let resource = entity_in(alloc, item, whole, "resource")?;
+    let context = context_in(alloc, item, whole)?;
+    let entities = entities_in(alloc, item, whole)?;
     let used = ",\"resource\":";
     let within = ",\"context\":";
     let close = "}";
-    format!(in alloc;
-        "{open}{principal}{done}{action}{used}{resource}{within}{context}{entities}{close}"
-    )
+    format!(in alloc; "{used}{resource}{within}{context}{entities}{close}")
+}
+
+fn entity_in<'v, 'a>(
+    alloc: Global,
+    item: Option<&'v Value<'a>>,
+    whole: &'v Value<'a>,
+    name: &str,
+) -> Result<String, AllocError>
+    requires item { HaveNumbers (option_map (λ v. value_view v.now) item) }
+    requires whole { HasNumbers (value_view whole.now) }
+    ensures { IfOk result (λ s. string_bytes s ≡
+        entity_text (part name.now (option_map (λ v. value_view v.now) item.entry) (value_view whole.now))) }
+{
+    entity_text(alloc, part(item, whole, name))
+}
+
+fn action_in<'v, 'a>(
+    alloc: Global,
+    item: Option<&'v Value<'a>>,
+    whole: &'v Value<'a>,
+) -> Result<String, AllocError>
+    requires item { HaveNumbers (option_map (λ v. value_view v.now) item) }
+    requires whole { HasNumbers (value_view whole.now) }
+    ensures { IfOk result (λ s. string_bytes s ≡ action_text
+        (part (codes "action") (option_map (λ v. value_view v.now) item.entry) (value_view whole.now))) }
+{
+    action_text(alloc, part(item, whole, "action"))
+}
+
+fn context_in<'v, 'a>(
+    alloc: Global,
+    item: Option<&'v Value<'a>>,
+    whole: &'v Value<'a>,
+) -> Result<String, AllocError>
+    requires item { HaveNumbers (option_map (λ v. value_view v.now) item) }
+    requires whole { HasNumbers (value_view whole.now) }
+    ensures { IfOk result (λ s. string_bytes s ≡ context_text
+        (part (codes "context") (option_map (λ v. value_view v.now) item.entry) (value_view whole.now))) }
+{
+    context_text(alloc, part(item, whole, "context"))
+}
+
+fn entities_in<'v, 'a>(
+    alloc: Global,
+    item: Option<&'v Value<'a>>,
+    whole: &'v Value<'a>,
+) -> Result<String, AllocError>
+    requires item { HaveNumbers (option_map (λ v. value_view v.now) item) }
+    requires whole { HasNumbers (value_view whole.now) }
+    ensures { IfOk result (λ s. string_bytes s ≡ optional_text (codes ",\"entities\":")
+        (part (codes "entities") (option_map (λ v. value_view v.now) item.entry) (value_view whole.now))) }
+{
+    optional_text(alloc, ",\"entities\":", part(item, whole, "entities"))
 }
 
 fn entity_text(alloc: Global, entity: Option<&Value<'_>>) -> Result<String, AllocError>

@@ -1,7 +1,7 @@
 //! A service with a log.
-ghost use Rattle.std.specs.Prelude.{◌≡◌, true, OnOk};
+ghost use Rattle.std.specs.Prelude.{◌≡◌, [], true, false};
 ghost use Rattle.cedar_log.specs.Exchanges.{hands_out};
-ghost use Rattle.cedar_log.specs.Logs.{IsHandedOut, IsLogged, IsWithheld};
+ghost use Rattle.cedar_log.specs.Logs.{IsAppended, IsHandedOut, IsLogged, IsWithheld, IsKeptOr, TellsOrWithholds};
 
 use crate::exchanges::{hands_out, lines_of};
 use crate::logs::{Log, append, give_up};
@@ -68,15 +68,27 @@ fn tell<L: Write + Drop>(
     }
 }
 
-fn tell_lines<L: Write + Drop>(log: &mut Log<L>, lines: &str, response: &mut Response) {
-    if !append(log, lines) {
-        withhold(response);
-    }
+fn tell_lines<L: Write + Drop>(log: &mut Log<L>, lines: &str, response: &mut Response)
+    ensures { TellsOrWithholds L.contents lines.now response.old response.new log.old log.new }
+{
+    let is_whole = append(log, lines);
+    keep_or_withhold(is_whole, response);
 }
 
-fn tell_none<L: Write + Drop>(log: &mut Log<L>, response: &mut Response) {
+fn tell_none<L: Write + Drop>(log: &mut Log<L>, response: &mut Response)
+    ensures log { IsAppended L.contents [] log.old log.new false }
+    ensures response { IsWithheld response.new }
+{
     give_up(log);
     withhold(response);
+}
+
+fn keep_or_withhold(keeps: bool, response: &mut Response)
+    ensures { IsKeptOr keeps response.old response.new }
+{
+    if !keeps {
+        withhold(response);
+    }
 }
 
 // Nothing is sent but 500.

@@ -1,5 +1,5 @@
 //! A log, to which lines are appended.
-ghost use Rattle.std.specs.Prelude.{◌≡◌, ◌++◌, List, ℕ, true};
+ghost use Rattle.std.specs.Prelude.{◌≡◌, ◌++◌, List, ℕ, [], false};
 ghost use Rattle.std.specs.Bool.{OnTrue};
 ghost use Rattle.std.specs.Io.KnownBytes.{Appends, Keeps};
 ghost use Rattle.cedar_log.specs.Logs.{IsAppended};
@@ -30,8 +30,7 @@ pub(crate) fn append<L: Write + Drop>(log: &mut Log<L>, text: &str) -> bool
 
 /// Nothing more is written.
 pub(crate) fn give_up<L: Write + Drop>(log: &mut Log<L>)
-    ensures writer { log.new.writer ≡ log.old.writer }
-    ensures broken { log.new.is_broken ≡ true }
+    ensures { IsAppended L.contents [] log.old log.new false }
 {
     log.is_broken = true;
 }

@@ -22,6 +22,8 @@ pub(crate) struct Options<'a> {
     pub(crate) allows_reload: bool,
     /// How many bytes the body of a request may have, if that is said.
     pub(crate) max_body: Option<usize>,
+    /// The name of the file to which decisions are told, if they are to be.
+    pub(crate) log: Option<&'a str>,
 }
 
 /// The command line.
@@ -41,6 +43,7 @@ pub(crate) fn command<'a>(alloc: Global) -> Result<Command<'a>, AllocError> {
         )))?
         .arg(flag(alloc, "allow-reload", allow_reload))?
         .arg(lines(alloc)?)?
+        .arg(log(alloc))?
         .arg(option(alloc, "max-body", "BYTES", max_body).value_parser(ValueParser::Unsigned(
             0,
             1_000_000_000,
@@ -66,6 +69,11 @@ fn lines<'a>(alloc: Global) -> Result<Arg<'a>, AllocError> {
         .conflicts_with("max-body")
 }
 
+fn log<'a>(alloc: Global) -> Arg<'a> {
+    let help = "A file to which each decision is written as a line of JSON, before it is answered";
+    option(alloc, "log", "FILE", help)
+}
+
 // An option without a value.
 fn flag<'a>(alloc: Global, name: &'a str, help: &'a str) -> Arg<'a> {
     Arg::new(alloc, name)
@@ -89,6 +97,7 @@ pub(crate) fn options_of<'a>(matches: &ArgMatches<'a>) -> Options<'a> {
         is_lines: matches.get_flag("lines"),
         allows_reload: matches.get_flag("allow-reload"),
         max_body: matches.get_one::<usize>("max-body"),
+        log: matches.get_str("log"),
     }
 }
 
