@@ -7,7 +7,7 @@ use Rattle.http.specs.declared.request.Request.{Request}
 use Rattle.http_server.specs.declared.response.Response.{Response}
 use Rattle.http_server.specs.Exchange.{Call, Chain}
 use Rattle.cedar_log.specs.Lines.{Text}
-use Rattle.cedar_log.specs.Logs.{Known, IsAppended, whole, broken, IsHandedOut, nothing_told, told, withheld, IsLogged}
+use Rattle.cedar_log.specs.Logs.{Known, whole, broken, IsHandedOut, nothing_told, told, withheld, IsLogged}
 use Rattle.cedar_log.specs.Logs.{AreHandedOut, no_call, not_told, told_first, withheld_first, AreLogged}
 use Rattle.cedar_log.specs.declared.logged.Logged.{Logged}
 use Rattle.cedar_log.specs.declared.logs.Log.{Log}

@@ -1,15 +1,16 @@
 -- What is appended and handed out.
-use Rattle.std.proofs.Common.{◌≡◌, sym, subst, ◌∙◌, Bool, true, false, not, ℕ, List, [], ◌++◌, Some}
+use Rattle.std.proofs.Common.{◌≡◌, subst, ◌∙◌, Bool, true, false, not, ℕ, List, ◌++◌, Option, Some}
 use Rattle.std.specs.Bool.{OnTrue}
+use Rattle.std.specs.Prelude.{IfSome}
 use Rattle.std.specs.Io.KnownBytes.{Appends}
 use Rattle.http.specs.declared.request.Request.{Request}
 use Rattle.http.specs.Request.{head_of, body_of}
 use Rattle.http_uri.specs.Uri.{uri_path}
 use Rattle.http_server.specs.declared.response.Response.{Response}
-use Rattle.json.specs.Json.{Json, document}
+use Rattle.json.specs.Json.{document}
 use Rattle.cedar_log.specs.Lines.{Text}
 use Rattle.cedar_log.specs.Exchanges.{hands_out, IsStamp, AreLines, AreLinesOf, exchange_text}
-use Rattle.cedar_log.specs.Logs.{Known, IsAppended, whole, broken, IsWithheld, IsHandedOut, told, withheld, IsKeptOr, TellsOrWithholds}
+use Rattle.cedar_log.specs.Logs.{Known, IsAppended, whole, broken, IsHandedOut, told, withheld, IsKeptOr, TellsOrWithholds}
 use Rattle.cedar_log.specs.declared.logs.Log.{Log}
 
 module _ {L : Type 0} (contents : L → Known) where
@@ -38,11 +39,14 @@ module _ {L : Type 0} (contents : L → Known) where
       handed q due p before after lines b hands are
       (subst (λ (t : Text). IsAppended contents t before after b) same app) kept
 
+pub some_given : {A : Type 0} (P : A → Type 0) (o : Option A) (a : A) → o ≡ Some a → IfSome o P → P a
+some_given P o a is h = subst (λ x. IfSome x P) is h
+
 -- the lines are those of the very bodies and fields
 pub lines_of_parts : (q : Request (List ℕ)) (p : Response) (lines stamp shown path body answer : Text) → IsStamp p stamp
     → shown ≡ stamp → path ≡ uri_path (head_of q).uri → body ≡ body_of q → answer ≡ p.body.items
     → AreLinesOf shown path body answer lines → AreLines q p lines
-lines_of_parts q p lines stamp shown path body answer is same at asks answers (j, is_j, a, is_a, are) = record {
+lines_of_parts q p lines stamp shown path body answer is same at asks answers (j, is_j, (a, is_a, are)) = record {
   stamp = stamp;
   stamp_is = is;
   asked = j;

@@ -1,5 +1,5 @@
 -- The line of a log that tells a decision.
-use Rattle.std.specs.Prelude.{◌≡◌, ⊤, ◌==◌, Bool, false, ℕ, suc, List, [], ◌++◌, Option, Some, None, if◌then◌else◌, codes}
+use Rattle.std.specs.Prelude.{⊤, ◌==◌, Bool, false, ℕ, suc, List, [], ◌++◌, Option, Some, None, if◌then◌else◌, codes}
 use Rattle.std.specs.Option.{option_or}
 use Rattle.json.specs.Json.{Json, null, boolean, number, string, array, object, Members, no_members, member}
 use Rattle.json.specs.Find.{get, at}

@@ -289,7 +289,7 @@ fn listed_text(
             asked,
             within(Some(asked), "evaluations"),
             answers,
-            items.len(),
+            items.as_slice().len(),
         ),
         Value::Null => single_text(alloc, stamp, asked, answered),
         Value::Bool(_) => single_text(alloc, stamp, asked, answered),

@@ -1,6 +1,6 @@
 //! A service with a log.
-ghost use Rattle.std.specs.Prelude.{◌≡◌, [], true, false};
-ghost use Rattle.cedar_log.specs.Exchanges.{hands_out};
+ghost use Rattle.std.specs.Prelude.{◌≡◌, [], true, false, IfSome, string_bytes};
+ghost use Rattle.cedar_log.specs.Exchanges.{hands_out, AreLines};
 ghost use Rattle.cedar_log.specs.Logs.{IsAppended, IsHandedOut, IsLogged, IsWithheld, IsKeptOr, TellsOrWithholds};
 
 use crate::exchanges::{hands_out, lines_of};
@@ -62,9 +62,25 @@ fn tell<L: Write + Drop>(
     ensures { IsHandedOut L.contents request.now response.old response.new log.old log.new }
 {
     match lines_of(alloc, request, response) {
-        Ok(Some(lines)) => tell_lines(log, lines.as_str(), response),
-        Ok(None) => tell_none(log, response),
+        Ok(found) => tell_found(log, found, request, response),
         Err(AllocError) => tell_none(log, response),
+    }
+}
+
+// The same, once the lines are found, if there are any.
+fn tell_found<L: Write + Drop>(
+    log: &mut Log<L>,
+    found: Option<String>,
+    request: &Request<Bytes>,
+    response: &mut Response,
+)
+    requires hands_out { hands_out request.now response.old ≡ true }
+    requires lines { IfSome found (λ s. AreLines request.now response.old (string_bytes s)) }
+    ensures { IsHandedOut L.contents request.now response.old response.new log.old log.new }
+{
+    match found {
+        Some(lines) => tell_lines(log, lines.as_str(), response),
+        None => tell_none(log, response),
     }
 }
 

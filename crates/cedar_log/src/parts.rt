@@ -87,5 +87,5 @@ fn is_empty_object(value: &Value<'_>) -> bool
 fn has_none(members: &Vec<(&str, Value<'_>)>) -> bool
     ensures { result ≡ is_empty_object (object (members_view members.now.items)) }
 {
-    members.is_empty()
+    members.as_slice().is_empty()
 }

@@ -1,4 +1,4 @@
-use Rattle.std.proofs.Common.{◌≡◌, ◌∙◌, ◌++◌, sym, Some, option_map, string_bytes}
+use Rattle.std.proofs.Common.{◌≡◌, ◌∙◌, ◌++◌, sym, Some, option_map}
 use Rattle.json.specs.Value.{value_view}
 use Rattle.cedar_log.specs.Lines.{nth}
 use Rattle.cedar_log.specs.Exchanges.{item_text}

@@ -1,6 +1,5 @@
-use Rattle.std.proofs.Common.{◌≡◌, ◌∙◌, ap, sym, ℕ, Option, Some, option_map, string_bytes, codes}
-use Rattle.json.specs.Json.{Json, Items, array}
-use Rattle.json.specs.Find.{get, as_array}
+use Rattle.std.proofs.Common.{◌≡◌, ◌∙◌, ap, sym, length, Some, option_map, string_bytes}
+use Rattle.json.specs.Find.{as_array}
 use Rattle.json.specs.Value.{value_view, items_view}
 use Rattle.cedar_log.specs.Exchanges.{count, items_text, listed_text}
 use Rattle.cedar_log.proofs.Items.{counted}
@@ -16,8 +15,8 @@ returns-in-Array c =
     let answers = value_view c.args.answers.now in
     let vs = c.in-Array.items.items in
     let list : as_array answers ≡ Some (items_view vs) = ap (λ v. as_array (value_view v)) c.in-Array.is ∙ ap as_array (view_array c.in-Array.items) in
-    let many : c.len.result ≡ count (items_view vs) = c.len.ensures ∙ sym (counted vs) in
-    let e : items_text stamp j (option_map (λ v. value_view v.now) c.within.result) answers c.len.result
+    let many : length c.as_slice.result.now ≡ count (items_view vs) = ap (λ l. length l) c.as_slice.ensures.value ∙ sym (counted vs) in
+    let e : items_text stamp j (option_map (λ v. value_view v.now) c.within.result) answers (length c.as_slice.result.now)
     ≡ listed_text stamp j a answers (as_array answers) =
     (λ i. items_text stamp j (c.within.ensures.value i) answers (many i)) ∙ ap (listed_text stamp j a answers) (sym list) in
     as_text string_bytes _ _ e c.items_text.result c.items_text.ensures

@@ -20,6 +20,6 @@ returns c =
     (λ s. AreLines q p (string_bytes s))
     (λ s. lines_of_parts q p (string_bytes s) (string_bytes c.in_ok-stamp.stamp) c.as_str.result.now c.path.result.now
     c.as_slice.result.now c.args.answer.now c.in_ok-stamp.ensures c.as_str.ensures.value path
-    (c.as_slice.ensures.value ∙ c.body.ensures) c.requires)
+    (c.as_slice.ensures ∙ c.body.ensures) c.requires)
     o)
     c.read_body.result c.read_body.ensures

@@ -9,6 +9,6 @@ returns-then-log g c = broken [] (λ lost. refl) c.if-log.true (Appends-nil (g.L
 
 pub returns : goal.returns
 returns g c =
-    appended g.L.Write.contents c.write_whole.result c.args.text.now c.as_bytes.result.now c.args.log.now
-    (record { writer = c.write_whole.new.writer; is_broken = not c.write_whole.result }) c.if-log.false refl
-    c.as_bytes.ensures.value c.write_whole.ensures.some c.write_whole.ensures.whole
+    appended g.L.Write.contents c.write_whole-is_whole.result c.args.text.now c.as_bytes.result.now c.args.log.now
+    (record { writer = c.write_whole-is_whole.new.writer; is_broken = not c.write_whole-is_whole.result }) c.if-log.false refl
+    c.as_bytes.ensures.value c.write_whole-is_whole.ensures.some c.write_whole-is_whole.ensures.whole

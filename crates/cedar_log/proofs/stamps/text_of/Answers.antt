@@ -1,4 +1,4 @@
-use Rattle.std.proofs.Common.{◌≡◌, ◌∙◌, sym, subst, List, ℕ, Some}
+use Rattle.std.proofs.Common.{◌∙◌, sym, subst, List, ℕ, Some}
 use Rattle.std.specs.Str.{IsUtf8}
 use Rattle.cedar_log.specs.Exchanges.{IsShown, shown, no_text}
 use Rattle.cedar_log.proofs.stamps.text_of.Goals as goal
