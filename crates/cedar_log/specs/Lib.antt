@@ -1,3 +1,4 @@
 pub mod Lines
 pub mod Exchanges
 pub mod Logs
+pub mod Reading

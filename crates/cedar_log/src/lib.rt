@@ -4,6 +4,7 @@
 //! - `logs`: `Log`, to which lines are appended whole, or none from then on.
 //! - `exchanges`: which lines tell what a response hands out. `lines`: the line of one decision. `stamps`: the version and
 //!   the id that each names. `parts`: where a document has what is told. `texts`: JSON as text.
+//! - `reading`: `logged_request`, the request of a line.
 //!
 //! The promise, of `Logged` (`specs/Logs`): the service behind it answers as it does without a log, and each answer is
 //! handed out once the lines of the decisions in it stand behind what the log had; or they could not be written, and then
@@ -18,10 +19,12 @@ mod lines;
 mod logged;
 mod logs;
 mod parts;
+mod reading;
 mod serving;
 mod stamps;
 mod texts;
 
 pub use logged::Logged;
 pub use logs::Log;
+pub use reading::logged_request;
 pub use serving::serve_logged;
