@@ -4,6 +4,7 @@ use Rattle.std.proofs.Math.Seq.{drop-cons}
 use Rattle.std.specs.Borrow.{Bor}
 use Rattle.std.specs.declared.alloc.AllocError.{AllocError}
 use Rattle.json.specs.Json.{Json}
+use Rattle.cedar_log.specs.Reading.{asked_of}
 use Rattle.cedar_model.specs.Terms.{Text}
 use Rattle.cedar_model.specs.Agreement.{AgreesWithFunctions}
 use Rattle.cedar_layers.specs.declared.policies.entities.Entities.{Entities}
@@ -34,12 +35,17 @@ use Rattle.cedar_regression.specs.Compared.{IsLineAs, IsLine}
 
 -- the line at this place, and those behind it
 pub next_line : (ls : List (Bor Text)) (i : ℕ) (d : Bor Text) → i < length ls
-    → map (λ (l : Bor Text). l.now) (drop i ls)
-    ≡ (get_or ls i d).now ∷ map (λ (l : Bor Text). l.now) (drop (i + 1) ls)
+    → map (λ (l : Bor Text). asked_of l.now) (drop i ls)
+    ≡ asked_of (get_or ls i d).now ∷ map (λ (l : Bor Text). asked_of l.now) (drop (i + 1) ls)
 next_line ls i d within =
     let more : suc i ≡ i + 1 = omega arith in
-    ap (map (λ (l : Bor Text). l.now))
+    ap (map (λ (l : Bor Text). asked_of l.now))
     (drop-cons ls i d within ∙ ap (λ j. get_or ls i d ∷ drop j ls) more)
+
+-- what each asks
+pub each_asks : (ls : List (Bor Text)) → map (λ (l : Bor Text). asked_of l.now) ls ≡ map asked_of (map (λ (l : Bor Text). l.now) ls)
+each_asks [] = refl
+each_asks (l ∷ ls) = ap (λ ts. asked_of l.now ∷ ts) (each_asks ls)
 
 -- ---- one line
 

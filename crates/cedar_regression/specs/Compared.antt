@@ -1,5 +1,5 @@
 -- What two sets of policies answer to many requests, and what is printed of it.
-use Rattle.std.specs.Prelude.{◌≡◌, ℕ, Bool, true, false, List, string_bytes}
+use Rattle.std.specs.Prelude.{◌≡◌, ℕ, Bool, true, false, List, map, string_bytes}
 use Rattle.std.specs.Str.Lines.{lines}
 use Rattle.cedar_model.specs.Terms.{Text}
 use Rattle.cedar_model.specs.World as world
@@ -10,6 +10,7 @@ use Rattle.cedar_expectations.specs.Answers.{AnswerView, answer_view}
 use Rattle.cedar_expectations.specs.Compared.{ComparisonView, compared, AreEach, lines_of, status_of}
 use Rattle.cedar_expectations.specs.Compared.{is_any_refused, is_any_different}
 use Rattle.cedar_expectations.specs.declared.comparisons.Comparisons.{Comparisons}
+use Rattle.cedar_log.specs.Reading.{asked_of}
 use Rattle.cedar_cli.specs.declared.asked.Asked.{Asked}
 use Rattle.cedar_cli.specs.declared.asked.Source.{Source}
 use Rattle.cedar_cli.specs.declared.asked.Way.{Way}
@@ -63,11 +64,15 @@ pub record AreComparedAs (Old New : Asked → AnswerView → Type 0) (Unread : A
   pub output_is : string_bytes p.output ≡ lines_of comparisons
   pub status_is : p.status ≡ status_of (is_any_refused comparisons) (is_any_different comparisons)
 
+-- what the lines of the text ask, each a request, or a line of a log, which has one
+abbrev pub asked_lines : Text → List Text
+asked_lines requests = map asked_of (lines requests)
+
 -- the whole: for each line of the text, what the policies of the two texts answer to its request is compared
 abbrev pub AreCompared : Text → Text → Asked → Text → Way → Printed → Type 0
 AreCompared old new q requests w p =
     AreComparedAs (IsAnswerOf old w) (IsAnswerOf new w) (IsRequestUnread standard_extensions standard_calls) q
-    (lines requests) p
+    (asked_lines requests) p
 
 -- the policies of one of the texts can't be read, or the entities
 pub data AreUncompared (old new : Text) (q : Asked) : Type 0 where
@@ -110,4 +115,4 @@ pub record AreComparedBy (X : world.Extensions) (calls : StoredCalls) (old new :
     (w : Way) (p : Printed) : Type 0 where
   pub entities : Entities
   pub store_is : IsGivenStore X calls q entities
-  pub compared : AreComparedOver X calls old new entities q w (lines requests) p
+  pub compared : AreComparedOver X calls old new entities q w (asked_lines requests) p

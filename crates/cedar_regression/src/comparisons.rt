@@ -1,5 +1,6 @@
 //! What two sets of policies answer differently.
-ghost use Rattle.std.specs.Prelude.{◌≡◌, false, true, map, IfOk, IfErr, string_bytes};
+ghost use Rattle.std.specs.Prelude.{◌≡◌, false, true, map, option_map, IfOk, IfErr, string_bytes};
+ghost use Rattle.cedar_log.specs.Reading.{asked_of, IsAsked};
 ghost use Rattle.std.specs.Str.Lines.{lines};
 ghost use Rattle.cedar_extensions.specs.Extensions.{extensions_view, calls_of};
 ghost use Rattle.cedar_expectations.specs.Answers.{answer_view};
@@ -7,7 +8,7 @@ ghost use Rattle.cedar_expectations.specs.Compared.{comparison_view, compared, s
 ghost use Rattle.cedar_cli.specs.Batch.{asking, IsTold, IsRefusalLine};
 ghost use Rattle.cedar_cli.specs.Reasons.{IsToldFor, IsStoreUnread};
 ghost use Rattle.cedar_regression.specs.Compared.{AreCompared, AreUncompared, AreComparedBy, AreComparedOver};
-ghost use Rattle.cedar_regression.specs.Compared.{AreLinesOver, IsLineOver};
+ghost use Rattle.cedar_regression.specs.Compared.{asked_lines, AreLinesOver, IsLineOver};
 
 use crate::answers::{Both, both_answers};
 use cedar_cli::{
@@ -15,6 +16,7 @@ use cedar_cli::{
     tell_templates,
 };
 use cedar_expectations::{Comparison, Comparisons, compare};
+use cedar_log::logged_request;
 use cedar_policy_core::ast::PolicySet;
 use cedar_policy_core::entities::Entities;
 use cedar_policy_core::extensions::Extensions;
@@ -27,7 +29,7 @@ use std::alloc::{AllocError, Global};
 const REQUEST_NAME: &str = "the request";
 
 /// What the old and the new policies answer differently to requests over the same entities, of which each line of the
-/// text has one in JSON: in their order a line of JSON for each request to which the decisions differ, or a reason or an
+/// text has one in JSON, or is a line of a log, whose request is asked: in their order a line of JSON for each request to which the decisions differ, or a reason or an
 /// error of one answer is none of the other; and for each that is refused a line with the reason, and its number. The
 /// exit status is 1 where a line is refused, else 2 where anything differs, and else 0. Templates, which decide nothing,
 /// are told as warnings. Refused where policies or entities can't be read.
@@ -124,7 +126,7 @@ fn compare_text(
 ) -> Result<Printed, AllocError>
     ensures { IfOk result (AreComparedOver (extensions_view extensions.now) (calls_of extensions.now)
         old.now new.now entities.now asked.now
-        way (lines requests.now)) }
+        way (asked_lines requests.now)) }
 {
     let lines = lines_of(alloc, requests)?;
     let compared = compare_lines(alloc, old, new, entities, way, asked, &lines, extensions);
@@ -164,7 +166,7 @@ fn compare_lines(
 ) -> Result<Comparisons, AllocError>
     ensures { IfOk result (AreLinesOver (extensions_view extensions.now) (calls_of extensions.now)
         old.now new.now entities.now asked.now
-        way (map (λ x. x.now) lines.now)) }
+        way (map (λ x. asked_of x.now) lines.now)) }
 {
     let mut all = Comparisons::none(alloc);
     'lines: for i in 0..lines.len() {
@@ -198,11 +200,54 @@ fn compare_line(
 ) -> Result<Comparison, AllocError>
     ensures { IfOk result (λ c. IsLineOver (extensions_view extensions.now) (calls_of extensions.now)
         old.now new.now entities.now asked.now
-        way number line.now (comparison_view c)) }
+        way number (asked_of line.now) (comparison_view c)) }
+{
+    let logged = logged_request(alloc, line)?;
+    let one = compare_request(
+        alloc,
+        old,
+        new,
+        entities,
+        way,
+        asked,
+        text_or(&logged, line),
+        number,
+        extensions,
+    );
+    drop(logged);
+    one
+}
+
+// What is asked: the request of the line of a log, or else the line itself.
+fn text_or<'t>(logged: &'t Option<String>, line: &'t str) -> &'t str
+    requires { IsAsked line.now (option_map string_bytes logged.now) }
+    ensures { result.now ≡ asked_of line.now }
+{
+    match logged {
+        Some(text) => text.as_str(),
+        None => line,
+    }
+}
+
+// What is printed of the request, whose line has this number.
+fn compare_request(
+    alloc: Global,
+    old: &PolicySet,
+    new: &PolicySet,
+    entities: &Entities,
+    way: Way,
+    asked: &Asked<'_, '_>,
+    request: &str,
+    number: usize,
+    extensions: &Extensions<'_>,
+) -> Result<Comparison, AllocError>
+    ensures { IfOk result (λ c. IsLineOver (extensions_view extensions.now) (calls_of extensions.now)
+        old.now new.now entities.now asked.now
+        way number request.now (comparison_view c)) }
 {
     let request = Source {
         name: REQUEST_NAME,
-        text: line,
+        text: request,
     };
     let asked_of_line = ask(asked, request);
     match both_answers(alloc, old, new, entities, way, &asked_of_line, extensions) {

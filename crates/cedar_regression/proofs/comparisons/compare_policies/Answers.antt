@@ -1,5 +1,4 @@
 use Rattle.std.proofs.Common.{subst}
-use Rattle.std.specs.Str.Lines.{lines}
 use Rattle.cedar_model.specs.Agreement.{AgreesWithFunctions}
 use Rattle.cedar_extensions.specs.Extensions.{extensions_view, calls_of}
 use Rattle.cedar_text_parser.specs.PolicyReading.{AreAllRead}
@@ -12,7 +11,7 @@ use Rattle.cedar_cli.proofs.Alone.{calls_alone, view_alone, known_alone}
 use Rattle.cedar_cli.proofs.Composed.{of_ok, of_err}
 use Rattle.cedar_cli.proofs.Reasoned.{because}
 use Rattle.cedar_regression.specs.Answered.{IsAnswerOver, IsAnswerOf}
-use Rattle.cedar_regression.specs.Compared.{AreComparedBy, AreCompared, AreUncompared, old_unread, new_unread, entities_unread}
+use Rattle.cedar_regression.specs.Compared.{asked_lines, AreComparedBy, AreCompared, AreUncompared, old_unread, new_unread, entities_unread}
 use Rattle.cedar_regression.proofs.Lines.{answered_alone, lines_as}
 use Rattle.cedar_regression.proofs.comparisons.compare_policies.Goals as goal
 
@@ -54,7 +53,7 @@ returns-clause-compared c =
           by.store_is is)
           (λ r a is. answered_alone calls ask agree new_text new new_read c.in_ok-new_parsed.ensures.low s w (asking q r) a
           by.store_is is)
-          1 (lines requests) by.compared.comparisons by.compared.each;
+          1 (asked_lines requests) by.compared.comparisons by.compared.each;
       output_is = by.compared.output_is;
       status_is = by.compared.status_is;
     })

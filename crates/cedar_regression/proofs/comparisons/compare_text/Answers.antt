@@ -3,6 +3,8 @@ use Rattle.cedar_extensions.specs.Extensions.{extensions_view, calls_of}
 use Rattle.cedar_model.specs.Terms.{Text}
 use Rattle.cedar_expectations.specs.Compared.{status_of, is_any_different}
 use Rattle.cedar_regression.specs.Compared.{AreComparedOver}
+use Rattle.cedar_log.specs.Reading.{asked_of}
+use Rattle.cedar_regression.proofs.Lines.{each_asks}
 use Rattle.cedar_regression.proofs.comparisons.compare_text.Goals as goal
 
 pub returns : goal.returns
@@ -12,7 +14,7 @@ returns g c =
     let all = c.in_ok-all.all in
     subst (λ (ls : List Text). AreComparedOver (extensions_view x) (calls_of x) c.args.old.now c.args.new.now
     c.args.entities.now c.args.asked.now c.args.way ls c.print_all.result)
-    (ap (map (λ l. l.now)) c.deref.ensures.value ∙ c.in_ok-lines.ensures)
+    (each_asks c.deref.result.now ∙ ap (map asked_of) (ap (map (λ l. l.now)) c.deref.ensures.value ∙ c.in_ok-lines.ensures))
     (record {
       comparisons = of.comparisons;
       each = of.each;
