@@ -1,14 +1,14 @@
 #![tactic(auto, using(crate::proofs::Views::views, crate::proofs::Numbers::numbers))]
 //! Which lines tell what a response hands out.
-ghost use Rattle.std.specs.Prelude.{◌≡◌, Some, None, IfOk, IfSome, option_map, string_bytes};
+ghost use Rattle.std.specs.Prelude.{◌≡◌, Some, None, IfOk, IfSome, option_map, codes, string_bytes};
 ghost use Rattle.json.specs.Find.{get, as_array};
 ghost use Rattle.json.specs.Tree.{HasNumbers};
 ghost use Rattle.json.specs.Value.{value_view};
-ghost use Rattle.cedar_log.specs.Lines.{HaveNumbers, nth, json_text, found_text, decision_line, other_line};
+ghost use Rattle.cedar_log.specs.Lines.{HaveNumbers, nth, json_text, found_text, stamp_text, decision_line, other_line};
 ghost use Rattle.cedar_log.specs.Exchanges.{hands_out, AreLines, AreLinesFor, AreLinesOf, exchange_text};
 ghost use Rattle.cedar_log.specs.Exchanges.{single_text, several_text, listed_text, items_text, item_text};
 
-use crate::lines::{decision_line, other_line, request_text};
+use crate::lines::{decision_line, other_line, request_text, stamp_text};
 use crate::parts::{nth, within};
 use crate::stamps::stamp_of;
 use crate::texts::{found_text, value_text};
@@ -68,6 +68,27 @@ fn stamped_lines(
         request.uri().path(),
         request.body().as_slice(),
         answer,
+    )
+}
+
+/// The line of one of Cedar's own requests and the answer to it, in this version. None, where one of the two is no JSON.
+/// Refuses only if out of memory.
+pub fn request_line(
+    alloc: Global,
+    version: &str,
+    request: &[u8],
+    answer: &str,
+) -> Result<Option<String>, AllocError>
+    ensures { IfOk result (λ o. IfSome o (λ s. AreLinesOf (stamp_text (Some version.now) None)
+        (codes "/v1/authorize") request.now answer.now (string_bytes s))) }
+{
+    let stamp = stamp_text(alloc, Some(version), None)?;
+    read_body(
+        alloc,
+        stamp.as_str(),
+        "/v1/authorize",
+        request,
+        answer.as_bytes(),
     )
 }
 

@@ -24,7 +24,8 @@ mod serving;
 mod stamps;
 mod texts;
 
+pub use exchanges::request_line;
 pub use logged::Logged;
-pub use logs::Log;
+pub use logs::{Log, append};
 pub use reading::logged_request;
 pub use serving::serve_logged;

@@ -16,8 +16,8 @@ pub struct Log<L: Write + Drop> {
     pub is_broken: bool,
 }
 
-/// Appends the text, and flushes; or answers that it could not.
-pub(crate) fn append<L: Write + Drop>(log: &mut Log<L>, text: &str) -> bool
+/// Appends the text, and flushes; or answers that it could not, and then nothing more is appended.
+pub fn append<L: Write + Drop>(log: &mut Log<L>, text: &str) -> bool
     ensures { IsAppended L.contents text.now log.old log.new result }
 {
     if log.is_broken {

@@ -7,9 +7,11 @@ use Rattle.http_server.specs.Exchange.{Call}
 use Rattle.http_server.specs.History.{History, IsServed}
 use Rattle.cedar_endpoints.specs.declared.service.Decisions.{Decisions}
 use Rattle.cedar_log.specs.Logs.{Known, AreHandedOut}
+use Rattle.cedar_logged_lines.specs.Lines.{AreAllLogged}
+use Rattle.cedar_service.specs.Decided.{IsAuthorized}
 use Rattle.cedar_service.specs.declared.loaded.Loaded.{Loaded}
-use Rattle.cedar_service.specs.Loaded.{Texts, both_texts, IsLoadedOf}
-use Rattle.cedar_service.specs.Serving.{AreAnswered}
+use Rattle.cedar_service.specs.Loaded.{Texts, both_texts, engine_of, IsLoadedOf}
+use Rattle.cedar_service.specs.Serving.{loaded_version, AreAnswered}
 use Rattle.cedar_serve.specs.Metadata.{metadata_text}
 
 -- To each call there is a response that is due, and that is sent once it is told, or else 500; the lines of those which
@@ -44,3 +46,12 @@ pub record IsLoggedFrom (policies entities : Text) (url : Option Text) (page : �
   pub answered : AreAnswered (both_texts policies entities) service due last
   pub told : AreSent due h.calls before after
   pub sent : ∥ IsServed config h ∥₁
+
+-- ---- lines
+
+-- each line is answered as the policies and the entities decide that these texts say, and told to the log before that;
+-- nothing else is written
+pub record AreLoggedFrom (policies entities : Text) (reader writer last log log_last : Known) : Type 0 where
+  pub loaded : Loaded
+  pub is_of : IsLoadedOf (both_texts policies entities) loaded
+  pub all : AreAllLogged (IsAuthorized (engine_of loaded)) (loaded_version loaded) reader writer last log log_last

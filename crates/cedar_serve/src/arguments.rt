@@ -66,8 +66,7 @@ fn lines<'a>(alloc: Global) -> Result<Arg<'a>, AllocError> {
         .conflicts_with("url")?
         .conflicts_with("page-size")?
         .conflicts_with("allow-reload")?
-        .conflicts_with("max-body")?
-        .conflicts_with("log")
+        .conflicts_with("max-body")
 }
 
 fn log<'a>(alloc: Global) -> Arg<'a> {

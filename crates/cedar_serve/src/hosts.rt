@@ -1,10 +1,11 @@
 //! Connections over what the system gives.
+use crate::logged_lines::log_answers;
 use crate::logging::log_texts;
 use crate::serving::{Stopped, Texts, serve_texts};
 use http_server::{Config, State};
 use std::hash::RandomState;
 use std::io;
-use std::io::{BufWriter, Write};
+use std::io::{BufReader, BufWriter, Write};
 use std::random::RandomSource;
 
 /// How long a body may be; all else is as `http_server` has it.
@@ -55,6 +56,19 @@ pub(crate) fn log_host<R: Input + AllocGlobal + Print + RandomSource, L: Write +
     );
     drop(log);
     done(ended?)
+}
+
+/// Answers lines of standard input, through buffers, with this log.
+pub(crate) fn log_lines_host<R: Input + AllocGlobal + Print, L: Write + Drop>(
+    rt: &R,
+    texts: Texts<'_>,
+    log: L,
+) -> Result<(), Stopped> {
+    let mut reader = BufReader::new(rt.alloc(), rt.reader())?;
+    let mut writer = BufWriter::new(rt.alloc(), io::writer(rt))?;
+    let (log, answered) = log_answers(rt.alloc(), texts, log, &mut reader, &mut writer);
+    drop(log);
+    answered
 }
 
 fn done(ended: State) -> Result<(), Stopped> {

@@ -4,9 +4,9 @@
 //! - `main`: reads the words of the command line and the files, serves, and ends with a status: 0 where the connection is
 //!   done, `REFUSED` where there is none or it breaks, and `OUT_OF_MEMORY`.
 //! - `arguments`: the options. `files`: the files that they name. `serving`: `serve_texts`, the connection from the two
-//!   texts on. `logging`: `log_texts`, the same with a log, and `hosts`, over what the system gives. `lines`:
-//!   `answer_texts`, requests that come a line each. `metadata`: where the endpoints are. `reasons`, `refusal`, `visible`:
-//!   why there is no connection, as it is told on standard error.
+//!   texts on. `lines`: `answer_texts`, requests that come a line each. `logging`, `logged_lines`: `log_texts` and
+//!   `log_answers`, the same with a log. `hosts`: all of it over what the system gives. `metadata`: where the endpoints
+//!   are. `reasons`, `refusal`, `visible`: why there is no connection, as it is told on standard error.
 //!
 //! The promise, of `serve_texts`: what is sent is the answers that are due to the requests received, in their order,
 //! where decisions are those of the policies and the entities that the two texts say (`IsServedFrom` in
@@ -17,6 +17,7 @@ mod arguments;
 mod files;
 mod hosts;
 mod lines;
+mod logged_lines;
 mod logging;
 mod metadata;
 mod reasons;
@@ -26,14 +27,14 @@ mod visible;
 
 use arguments::{Options, command, options_of, text_of_help};
 use files::{file_text, file_to_append};
-use hosts::{config, log_host, serve_host};
+use hosts::{config, log_host, log_lines_host, serve_host};
 use lines::answer_texts;
 use reasons::refuse_texts;
 use refusal::{Refusal, refuse_with_line};
 use serving::{Stopped, Texts};
 use std::alloc::Global;
 use std::env::Env;
-use std::io::{BufReader, BufWriter};
+use std::io::{BufReader, BufWriter, Write};
 use std::process::ExitCode;
 use std::random::RandomSource;
 use std::rt::Files;
@@ -148,9 +149,22 @@ fn serve_as<R: Files + Input + AllocGlobal + Print + RandomSource>(
     match options.log {
         Some(name) => {
             let log = file_to_append(rt, name)?;
-            Ok(log_host(rt, config(options.max_body), texts, log))
+            Ok(serve_logged(rt, options, texts, log))
         }
         None => Ok(serve_unlogged(rt, options, texts)),
+    }
+}
+
+fn serve_logged<R: Input + AllocGlobal + Print + RandomSource, L: Write + Drop>(
+    rt: &R,
+    options: &Options<'_>,
+    texts: Texts<'_>,
+    log: L,
+) -> Result<(), Stopped> {
+    if options.is_lines {
+        log_lines_host(rt, texts, log)
+    } else {
+        log_host(rt, config(options.max_body), texts, log)
     }
 }
 
