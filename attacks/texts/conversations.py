@@ -716,6 +716,14 @@ def run(program):
     check("no line", [b""], b"", words)
     check("lines in pieces", [sent[at:at + 7] for at in range(0, len(sent), 7)], wanted, words)
     check("the last without an end", [sent[:-1]], wanted, words)
+    with tempfile.TemporaryDirectory() as folder:
+        log = os.path.join(folder, "log")
+        check("lines, with a log", [sent], wanted, [*words, "--log", log])
+        told = [compact({"request": json.loads(line), "answer": json.loads(due), "version": VERSION})
+                for line, due in zip(sent.split(b"\n"), wanted.split(b"\n")) if due and "decision" in json.loads(due)]
+        with open(log) as it:
+            if it.read() != "".join(line + "\n" for line in told):
+                faults.append("lines, with a log: the log")
     for fault in faults:
         print("FAILED:", fault)
     print(f"conversations: {len(rows)} requests in one, {len(LAST)} that end one, {len(faults)} failed")

@@ -1,9 +1,13 @@
 //! Cedar's own requests, a line each, with a log.
 //!
-//! - `lines`: `answer_logged_lines`, lines up to the end. `answers`: the answer to one, and what is told of it.
+//! - `lines`: `answer_logged_lines`, which reads lines up to the end: each is answered as `answer_lines` of
+//!   `cedar_endpoints` answers it, and told to a log of `cedar_log` before.
+//! - `answers`: the answer to one line, and what is told of it.
 //!
-//! The promise (`specs/Lines`): each line that is read is answered as without a log, in their order, and before that the
-//! line of each decision stands behind what the log had.
+//! The promise (`specs/Lines`): the lines that are read are answered as without a log, in their order and up to the end,
+//! and nothing else is written. Behind what the log had stands, in the same order, the line of each request that was
+//! decided, with its answer; of what is refused nothing is told. Where something can't be written to the log whole, the
+//! answer is not written, and neither is any behind it.
 #![tactic(auto)]
 
 mod answers;
