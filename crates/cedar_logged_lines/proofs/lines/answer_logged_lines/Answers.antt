@@ -5,7 +5,7 @@ use Rattle.cedar_logged_lines.proofs.Lined.{with_line, at_the_end}
 use Rattle.cedar_logged_lines.proofs.lines.answer_logged_lines.Goals as goal
 
 pub lines-init : goal.lines-init
-lines-init g c = ([], ([], ([], no_line)))
+lines-init g c = ([], [], [], no_line)
 
 pub lines-preserved : goal.lines-preserved
 lines-preserved g c =
