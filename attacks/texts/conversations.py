@@ -14,6 +14,7 @@ import os
 import random
 import subprocess
 import sys
+import tempfile
 import threading
 
 import json_texts
@@ -845,6 +846,82 @@ def lines():
     return b"".join(line + b"\n" for line, _ in rows), b"".join(compact(wanted).encode() + b"\n" for _, wanted in rows)
 
 
+# ---- what a log is told
+
+def unchunked(body):
+    out = b""
+    while True:
+        size, body = body.split(b"\r\n", 1)
+        size = int(size.split(b";")[0], 16)
+        if size == 0:
+            return out
+        out, body = out + body[:size], body[size + 2:]
+
+
+def exchange(sent, wanted):
+    """The path, the id, the body and the answer of a row, where it is answered with 200."""
+    head, body = sent.lstrip(b"\r\n").split(b"\r\n\r\n", 1)
+    fields = [it.split(": ", 1) for it in head.decode().split("\r\n")[1:]]
+    answer = wanted.removeprefix(b"HTTP/1.1 100 Continue\r\n\r\n")
+    if not answer.startswith(b"HTTP/1.1 200 ") or not head.startswith(b"POST "):
+        return None
+    if any(it[0] == "Transfer-Encoding" for it in fields):
+        body = unchunked(body)
+    ids = [it[1].strip() for it in fields if it[0].lower() == "x-request-id"]
+    return head.decode().split(" ")[1].split("?")[0], ids[:1], json.loads(body), json.loads(answer.split(b"\r\n\r\n", 1)[1])
+
+
+def cedar_request(whole):
+    """What an evaluation asks, as Cedar's own request; what is missing is null."""
+    def of(part, names):
+        it = whole.get(part)
+        it = it if isinstance(it, dict) else {}
+        more = {"properties": it["properties"]} if it.get("properties", {}) != {} else {}
+        return {name: it.get(key) for name, key in names.items()} | more
+    entity = {"type": "type", "id": "id"}
+    asked = {"principal": of("subject", entity), "action": {"type": "Action"} | of("action", {"id": "name"}),
+             "resource": of("resource", entity), "context": whole.get("context", {})}
+    return asked | ({"entities": whole["entities"]} if "entities" in whole else {})
+
+
+def log_lines(sent, wanted, of):
+    """The lines of what an answer hands out: each request and its answer, the version and the id."""
+    found = exchange(sent, wanted)
+    if found is None:
+        return []
+    path, ids, body, answer = found
+    told = []
+    if path == AUTHORIZE:
+        told = [{"request": body, "answer": answer}]
+    elif path in (EVALUATION, EVALUATIONS):
+        items, answers = [{}], [answer]
+        if "evaluations" in answer:
+            items, answers = body["evaluations"], answer["evaluations"]
+        told = [{"request": cedar_request(body | (it if isinstance(it, dict) else {})), "answer": one}
+                for it, one in zip(items, answers)]
+    else:
+        told = [{"path": path, "asked": body, "answer": answer}]
+    return [compact(it | {"version": of} | ({"requestId": ids[0]} if ids else {})) for it in told]
+
+
+def version_in(wanted):
+    return next((it[len(b"cedar-version: "):].decode() for it in wanted.split(b"\r\n") if it.startswith(b"cedar-version: ")), None)
+
+
+def log_of(rows):
+    return "".join(line + "\n" for _, sent, wanted in rows for line in log_lines(sent, wanted, version_in(wanted))).encode()
+
+
+def withheld(rows):
+    """The same answers where nothing can be written to the log."""
+    none = b"HTTP/1.1 500 Internal Server Error\r\ncontent-length: 0\r\n\r\n"
+    out = b""
+    for _, sent, wanted in rows:
+        interim = b"HTTP/1.1 100 Continue\r\n\r\n" if wanted.startswith(b"HTTP/1.1 100 ") else b""
+        out += interim + none if log_lines(sent, wanted, version_in(wanted)) else wanted
+    return out
+
+
 # ---- against a program
 
 def options():
@@ -891,12 +968,31 @@ def run(program):
     for what, last, ends in LAST:
         check(what, [request("POST", EVALUATION, GOOD) + last], due(200, GOOD_DUE) + ends)
     check("the request wins", [it[1] for it in WINNING], b"".join(it[2] for it in WINNING), [*options(), "--request-attributes-win"])
+    with tempfile.TemporaryDirectory() as folder:
+        log = os.path.join(folder, "log")
+        for number in (1, 2):
+            check("the conversation, with a log", [sent], wanted, [*options(), "--log", log])
+            with open(log, "rb") as it:
+                held = it.read()
+            due_lines = log_of(rows) * number
+            if held != due_lines:
+                at = next((n for n, (a, b) in enumerate(zip(held, due_lines)) if a != b), min(len(held), len(due_lines)))
+                faults.append(f"the log, run {number}: at byte {at}: {held[at - 60:at + 60]!r} instead of {due_lines[at - 60:at + 60]!r}")
+        check("a log that is full", [sent], withheld(rows), [*options(), "--log", "/dev/full"])
     sent, wanted = lines()
     words = [*options()[:4], "--lines"]
     check("lines", [sent], wanted, words)
     check("no line", [b""], b"", words)
     check("lines in pieces", [sent[at:at + 7] for at in range(0, len(sent), 7)], wanted, words)
     check("the last without an end", [sent[:-1]], wanted, words)
+    with tempfile.TemporaryDirectory() as folder:
+        log = os.path.join(folder, "log")
+        check("lines, with a log", [sent], wanted, [*words, "--log", log])
+        told = [compact({"request": json.loads(line), "answer": json.loads(due), "version": VERSION})
+                for line, due in zip(sent.split(b"\n"), wanted.split(b"\n")) if due and "decision" in json.loads(due)]
+        with open(log) as it:
+            if it.read() != "".join(line + "\n" for line in told):
+                faults.append("lines, with a log: the log")
     for fault in faults:
         print("FAILED:", fault)
     print(f"conversations: {len(rows)} requests in one, {len(LAST)} that end one, {len(faults)} failed")

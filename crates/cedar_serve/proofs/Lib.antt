@@ -1,2 +1,3 @@
 mod Composed
 mod Ended
+mod Told

@@ -1,3 +1,4 @@
 pub mod Visible
 pub mod Metadata
 pub mod Connections
+pub mod Logged

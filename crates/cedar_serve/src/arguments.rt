@@ -24,6 +24,8 @@ pub(crate) struct Options<'a> {
     pub(crate) request_wins: bool,
     /// How many bytes the body of a request may have, if that is said.
     pub(crate) max_body: Option<usize>,
+    /// The name of the file to which decisions are told, if they are to be.
+    pub(crate) log: Option<&'a str>,
 }
 
 /// The command line.
@@ -46,6 +48,7 @@ pub(crate) fn command<'a>(alloc: Global) -> Result<Command<'a>, AllocError> {
         .arg(flag(alloc, "allow-reload", allow_reload))?
         .arg(flag(alloc, "request-attributes-win", wins))?
         .arg(lines(alloc)?)?
+        .arg(log(alloc))?
         .arg(option(alloc, "max-body", "BYTES", max_body).value_parser(ValueParser::Unsigned(
             0,
             1_000_000_000,
@@ -72,6 +75,11 @@ fn lines<'a>(alloc: Global) -> Result<Arg<'a>, AllocError> {
         .conflicts_with("max-body")
 }
 
+fn log<'a>(alloc: Global) -> Arg<'a> {
+    let help = "A file to which each decision is written as a line of JSON, before it is answered";
+    option(alloc, "log", "FILE", help)
+}
+
 // An option without a value.
 fn flag<'a>(alloc: Global, name: &'a str, help: &'a str) -> Arg<'a> {
     Arg::new(alloc, name)
@@ -96,6 +104,7 @@ pub(crate) fn options_of<'a>(matches: &ArgMatches<'a>) -> Options<'a> {
         allows_reload: matches.get_flag("allow-reload"),
         request_wins: matches.get_flag("request-attributes-win"),
         max_body: matches.get_one::<usize>("max-body"),
+        log: matches.get_str("log"),
     }
 }
 

@@ -4,8 +4,9 @@
 //! - `main`: reads the words of the command line and the files, serves, and ends with a status: 0 where the connection is
 //!   done, `REFUSED` where there is none or it breaks, and `OUT_OF_MEMORY`.
 //! - `arguments`: the options. `files`: the files that they name. `serving`: `serve_texts`, the connection from the two
-//!   texts on. `lines`: `answer_texts`, requests that come a line each. `metadata`: where the endpoints are. `reasons`,
-//!   `refusal`, `visible`: why there is no connection, as it is told on standard error.
+//!   texts on. `lines`: `answer_texts`, requests that come a line each. `logging`, `logged_lines`: `log_texts` and
+//!   `log_answers`, the same with a log. `hosts`: all of it over what the system gives. `metadata`: where the endpoints
+//!   are. `reasons`, `refusal`, `visible`: why there is no connection, as it is told on standard error.
 //!
 //! The promise, of `serve_texts`: what is sent is the answers that are due to the requests received, in their order,
 //! where decisions are those of the policies and the entities that the two texts say (`IsServedFrom` in
@@ -14,7 +15,10 @@
 
 mod arguments;
 mod files;
+mod hosts;
 mod lines;
+mod logged_lines;
+mod logging;
 mod metadata;
 mod reasons;
 mod refusal;
@@ -22,16 +26,15 @@ mod serving;
 mod visible;
 
 use arguments::{Options, command, options_of, text_of_help};
-use files::file_text;
-use http_server::{Config, State};
+use files::{file_text, file_to_append};
+use hosts::{config, log_host, log_lines_host, serve_host};
 use lines::answer_texts;
 use reasons::refuse_texts;
 use refusal::{Refusal, refuse_with_line};
-use serving::{Stopped, Texts, serve_texts};
+use serving::{Stopped, Texts};
 use std::alloc::Global;
 use std::env::Env;
-use std::hash::RandomState;
-use std::io::{BufReader, BufWriter};
+use std::io::{BufReader, BufWriter, Write};
 use std::process::ExitCode;
 use std::random::RandomSource;
 use std::rt::Files;
@@ -128,11 +131,7 @@ fn serve_files<R: Files + Input + AllocGlobal + Print + RandomSource>(
         allows_reload: options.allows_reload,
         request_wins: options.request_wins,
     };
-    let ended = if options.is_lines {
-        answer_host(rt, texts)
-    } else {
-        serve_host(rt, config(options.max_body), texts)
-    };
+    let ended = serve_as(rt, &options, texts)?;
     match ended {
         Ok(()) => Ok(()),
         Err(Stopped::NotStarted(reason)) => {
@@ -142,42 +141,51 @@ fn serve_files<R: Files + Input + AllocGlobal + Print + RandomSource>(
     }
 }
 
+// With a log, if one is asked for.
+fn serve_as<R: Files + Input + AllocGlobal + Print + RandomSource>(
+    rt: &R,
+    options: &Options<'_>,
+    texts: Texts<'_>,
+) -> Result<Result<(), Stopped>, Refusal> {
+    match options.log {
+        Some(name) => {
+            let log = file_to_append(rt, name)?;
+            Ok(serve_logged(rt, options, texts, log))
+        }
+        None => Ok(serve_unlogged(rt, options, texts)),
+    }
+}
+
+fn serve_logged<R: Input + AllocGlobal + Print + RandomSource, L: Write + Drop>(
+    rt: &R,
+    options: &Options<'_>,
+    texts: Texts<'_>,
+    log: L,
+) -> Result<(), Stopped> {
+    if options.is_lines {
+        log_lines_host(rt, texts, log)
+    } else {
+        log_host(rt, config(options.max_body), texts, log)
+    }
+}
+
+fn serve_unlogged<R: Input + AllocGlobal + Print + RandomSource>(
+    rt: &R,
+    options: &Options<'_>,
+    texts: Texts<'_>,
+) -> Result<(), Stopped> {
+    if options.is_lines {
+        answer_host(rt, texts)
+    } else {
+        serve_host(rt, config(options.max_body), texts)
+    }
+}
+
 // Answers lines of standard input, through buffers.
 fn answer_host<R: Input + AllocGlobal + Print>(rt: &R, texts: Texts<'_>) -> Result<(), Stopped> {
     let mut reader = BufReader::new(rt.alloc(), rt.reader())?;
     let mut writer = BufWriter::new(rt.alloc(), io::writer(rt))?;
     answer_texts(rt.alloc(), texts, &mut reader, &mut writer)
-}
-
-// How long a body may be; all else is as `http_server` has it.
-fn config(max_body: Option<usize>) -> Config {
-    let default = Config::default();
-    Config {
-        max_body_len: max_body.unwrap_or(default.max_body_len),
-        ..default
-    }
-}
-
-// Over standard input and output, which is written through a buffer.
-fn serve_host<R: Input + AllocGlobal + Print + RandomSource>(
-    rt: &R,
-    config: Config,
-    texts: Texts<'_>,
-) -> Result<(), Stopped> {
-    let keys = RandomState::new(rt)?;
-    let mut writer = BufWriter::new(rt.alloc(), io::writer(rt))?;
-    let ended = serve_texts(
-        rt.alloc(),
-        keys,
-        config,
-        texts,
-        &mut rt.reader(),
-        &mut writer,
-    )?;
-    match ended {
-        State::Aborted => Err(Stopped::Broken(io::ErrorKind::OutOfMemory.into())),
-        State::Open | State::Closing(_) | State::Upgraded => Ok(()),
-    }
 }
 
 #[cold]

@@ -79,8 +79,8 @@ pub fn serve_texts<R: Read, W: Write>(
     }
 }
 
-// The service of the engine that the texts make.
-fn service_of(alloc: Global, texts: Texts<'_>) -> Result<Decisions<Loaded>, NotStarted>
+/// The service of the engine that the texts make.
+pub(crate) fn service_of(alloc: Global, texts: Texts<'_>) -> Result<Decisions<Loaded>, NotStarted>
     ensures engine { IfOk result (λ s.
         IsLoadedOf (both_texts texts.entry.policies.now texts.entry.entities.now texts.entry.request_wins) s.decider) }
     ensures metadata { IfOk result (λ s.
