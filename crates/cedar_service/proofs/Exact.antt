@@ -1,5 +1,5 @@
 -- What is answered is exact: what is read of a text has no unknown, and is low enough.
-use Rattle.std.proofs.Common.{◌≡◌, List, Option, None, Some}
+use Rattle.std.proofs.Common.{List, Option, None, Some}
 use Rattle.std.specs.Prelude.{◌≢◌}
 use Rattle.cedar_model.specs.Terms.{Text, ValueType}
 use Rattle.cedar_model.specs.Values.{AbstractValue}

@@ -1,9 +1,7 @@
 -- Attributes that are laid over a store.
-use Rattle.std.proofs.Common.{◌≡◌, refl, sym, ap, subst, ◌∙◌, Bool, true, false, true≢false, List, [], ◌∷◌, ◌++◌, Option, Some, None, is_some}
-use Rattle.std.proofs.Common.{option_map, Result, Ok, Err, IfOk}
-use Rattle.std.specs.Prelude.{⊤, if◌then◌else◌, option_copied}
-use Rattle.std.specs.Map.{lookup}
-use Rattle.cedar_model.specs.Terms.{Text, EntityName}
+use Rattle.std.proofs.Common.{◌≡◌, refl, sym, ap, subst, ◌∙◌, Bool, true, false, [], ◌∷◌, Option, Some, None, is_some}
+use Rattle.std.specs.Prelude.{if◌then◌else◌}
+use Rattle.cedar_model.specs.Terms.{Text}
 use Rattle.cedar_model.specs.Outcomes.{entity_eq}
 use Rattle.cedar_model.specs.Settings.{StoredEntity, known_context}
 use Rattle.cedar_names.specs.declared.names.EntityUID.{EntityUID}

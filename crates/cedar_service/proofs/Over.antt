@@ -1,5 +1,5 @@
 -- What is brought beside what is stored, from the text on.
-use Rattle.std.proofs.Common.{◌≡◌, refl, sym, subst, Bool, true, false, ◌==◌, length, arith, List, [], ◌∷◌, Option, Some, None, codes}
+use Rattle.std.proofs.Common.{◌≡◌, refl, sym, subst, true, false, ◌==◌, length, arith, List, [], ◌∷◌, Option, Some, codes}
 use Rattle.std.proofs.lemmas.Bool.Decides.{nat_tests}
 use Rattle.std.specs.Prelude.{IsSomeAnd}
 use Rattle.json.specs.Find.{get}
@@ -16,7 +16,7 @@ use Rattle.cedar_overlay.specs.Added.{IsRefusedOf}
 use Rattle.cedar_json_reader.specs.declared.errors.JsonError.{JsonError}
 use Rattle.cedar_json_reader.specs.Evaluated.{AreEntitiesOf}
 use Rattle.cedar_json_reader.specs.FailedEntities.{IsEntitiesError}
-use Rattle.cedar_json_reader.specs.JsonTexts.{SaysSo, IsUnread, IsTextError}
+use Rattle.cedar_json_reader.specs.JsonTexts.{IsUnread, IsTextError}
 use Rattle.cedar_json_reader.specs.SaidEntities.{entities_said}
 use Rattle.cedar_service.specs.declared.faults.Refusal.{Refusal}
 use Rattle.cedar_service.specs.declared.faults.Refusal.TheVariants as refusals

@@ -1,5 +1,5 @@
 -- Which request an evaluation asks, and why it asks none.
-use Rattle.std.specs.Prelude.{IsSomeAnd, ◌≡◌, ⊤, ℕ, Bool, true, false, Option, Some, None, Ok, Err, codes}
+use Rattle.std.specs.Prelude.{IsSomeAnd, ◌≡◌, ⊤, Bool, true, false, Option, Some, None, Ok, Err, codes}
 use Rattle.json.specs.Find.{get}
 use Rattle.json.specs.Json.{Json, object, member, no_members, string, document}
 use Rattle.cedar_model.specs.Terms.{Text, EntityName, Term}
@@ -7,7 +7,7 @@ use Rattle.cedar_model.specs.Values.{no_represented_at}
 use Rattle.cedar_model.specs.World as world
 use Rattle.cedar_model.specs.Rules.{StoredCalls}
 use Rattle.cedar_model.specs.Settings.{ContextPart, absent_context, known_context, residual_context}
-use Rattle.cedar_model.specs.Settings.{RequestPart, known_entry}
+use Rattle.cedar_model.specs.Settings.{known_entry}
 use Rattle.cedar_requests.specs.declared.context.Context.{Context}
 use Rattle.cedar_requests.specs.declared.errors.ContextCreationError.{ContextCreationError}
 use Rattle.cedar_requests.specs.declared.errors.ContextCreationError.TheVariants as creations

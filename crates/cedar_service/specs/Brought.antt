@@ -1,5 +1,5 @@
 -- Entities that a request brings beside those that are stored.
-use Rattle.std.specs.Prelude.{◌≡◌, ◌≢◌, ◌↔◌, ⊤, true, List, [], ◌∷◌, Option, None, Some, IsSomeAnd, codes}
+use Rattle.std.specs.Prelude.{◌≡◌, ◌↔◌, ⊤, true, List, [], ◌∷◌, Option, None, Some, IsSomeAnd, codes}
 use Rattle.json.specs.Json.{Json, document}
 use Rattle.json.specs.Find.{get}
 use Rattle.cedar_model.specs.Terms.{Text, EntityName}

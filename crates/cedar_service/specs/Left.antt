@@ -1,5 +1,5 @@
 -- What is left of an engine's policies for a request of which parts may be unknown.
-use Rattle.std.specs.Prelude.{◌≡◌, ⊤, ℕ, [], ◌++◌, false, Option, Some, None, Ok, Err, codes, string_bytes}
+use Rattle.std.specs.Prelude.{◌≡◌, false, Option, Some, None, Ok, codes, string_bytes}
 use Rattle.json.specs.Json.{Json}
 use Rattle.json.specs.Print.{print}
 use Rattle.json.specs.Tree.{json_tokens}

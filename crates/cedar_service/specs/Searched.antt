@@ -1,5 +1,5 @@
 -- What a search of an engine finds.
-use Rattle.std.specs.Prelude.{◌≡◌, ℕ, Bool, List, [], true, false, Option, Some, map, codes, string_bytes}
+use Rattle.std.specs.Prelude.{◌≡◌, ℕ, Bool, List, [], true, false, Option, map, codes, string_bytes}
 use Rattle.json.specs.Json.{Json, object, member, no_members, string}
 use Rattle.json.specs.Print.{print}
 use Rattle.json.specs.Tree.{json_tokens}

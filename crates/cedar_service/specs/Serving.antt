@@ -2,7 +2,7 @@
 use Rattle.std.specs.Prelude.{◌≡◌, List, ℕ, [], ◌∷◌, Some, option_map, string_bytes}
 use Rattle.http.specs.Request.{body_of}
 use Rattle.http_server.specs.Exchange.{Call}
-use Rattle.cedar_endpoints.specs.Answered.{IsAnswered, IsTakenSent}
+use Rattle.cedar_endpoints.specs.Answered.{IsTakenSent}
 use Rattle.cedar_endpoints.specs.Found.{finder_of}
 use Rattle.cedar_endpoints.specs.Reloads.{replaced_by}
 use Rattle.cedar_endpoints.specs.Served.{Offers, offered, reloads_of, asked_route, IsServed}

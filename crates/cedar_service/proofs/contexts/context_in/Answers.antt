@@ -1,4 +1,4 @@
-use Rattle.std.proofs.Common.{◌≡◌, Ok}
+use Rattle.std.proofs.Common.{Ok}
 use Rattle.json.specs.Value.{value_view}
 use Rattle.cedar_model.specs.Terms.{Text}
 use Rattle.cedar_extensions.specs.Extensions.{extensions_view, calls_of}

@@ -1,5 +1,4 @@
 use Rattle.cedar_extensions.specs.Extensions.{extensions_view, calls_of}
-use Rattle.cedar_overlay.specs.Bases.{base_entities}
 use Rattle.cedar_service.specs.Brought.{laid_or, IsUnbroughtBy}
 use Rattle.cedar_service.specs.Engines.{entities_of}
 use Rattle.cedar_service.specs.Left.{IsUntoldFor, LeavesFor, IsLeftOver, brought, not_brought}

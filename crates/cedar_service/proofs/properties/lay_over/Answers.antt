@@ -1,6 +1,5 @@
 use Rattle.cedar_extensions.specs.Extensions.{extensions_view, calls_of}
-use Rattle.std.proofs.Common.{subst, IfOk}
-use Rattle.std.specs.Prelude.{IfErr}
+use Rattle.std.proofs.Common.{subst}
 use Rattle.json.specs.Value.{value_view}
 use Rattle.cedar_layers.specs.declared.policies.entities.Entities.{Entities}
 use Rattle.cedar_names.specs.Names.{uid_name}

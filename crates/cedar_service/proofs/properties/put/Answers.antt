@@ -1,6 +1,5 @@
-use Rattle.std.proofs.Common.{◌≡◌, sym, ◌∙◌}
+use Rattle.std.proofs.Common.{sym, ◌∙◌}
 use Rattle.cedar_names.specs.Names.{uid_name}
-use Rattle.cedar_layers.specs.Stores.{store_view}
 use Rattle.cedar_service.specs.Faults.{IsToldAs}
 use Rattle.cedar_service.specs.Properties.{AreTaken}
 use Rattle.cedar_service.proofs.Composed.{of_err, because}

@@ -1,5 +1,4 @@
-use Rattle.std.proofs.Common.{◌≡◌, refl, sym, subst, ◌∙◌, ap}
-use Rattle.cedar_names.specs.Names.{uid_name}
+use Rattle.std.proofs.Common.{refl, subst, ◌∙◌, ap}
 use Rattle.cedar_layers.specs.Stores.{store_view}
 use Rattle.cedar_overlay.specs.Overlaid.{Brought, overlaid, AreFree}
 use Rattle.cedar_service.specs.Properties.{beside}

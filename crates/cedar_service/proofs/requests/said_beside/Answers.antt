@@ -1,7 +1,6 @@
 use Rattle.cedar_extensions.specs.Extensions.{extensions_view, calls_of}
 use Rattle.std.proofs.Common.{sym, subst}
 use Rattle.json.specs.Value.{value_view}
-use Rattle.cedar_model.specs.Terms.{Text}
 use Rattle.cedar_service.specs.Asked.{IsSaidBy, IsUnsaidBy, IsSaidBeside, IsUnsaidBeside}
 use Rattle.cedar_service.specs.Documents.{IsTextFor, without_entities}
 use Rattle.cedar_service.specs.Faults.{IsToldAs}

@@ -1,4 +1,4 @@
-use Rattle.std.proofs.Common.{Option, Some, None, IfOk, sym, subst}
+use Rattle.std.proofs.Common.{Option, IfOk, sym, subst}
 use Rattle.cedar_extensions.specs.Extensions.{extensions_view, calls_of}
 use Rattle.cedar_layers.specs.declared.policies.entities.Entities.{Entities}
 use Rattle.cedar_service.specs.Brought.{laid_or}

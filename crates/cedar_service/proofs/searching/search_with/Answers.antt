@@ -4,7 +4,7 @@ use Rattle.cedar_endpoints.specs.Asked.{evaluation_view}
 use Rattle.cedar_endpoints.specs.Searches.{search_view}
 use Rattle.cedar_search.specs.declared.searches.Part.{Part}
 use Rattle.cedar_service.specs.Asked.{IsAsked, IsUnasked}
-use Rattle.cedar_service.specs.Searched.{sample, part_of, IsFoundOver, IsUnfound, IsUnfoundAs, IsFoundWith, searched, not_searched}
+use Rattle.cedar_service.specs.Searched.{part_of, IsFoundOver, IsUnfound, IsUnfoundAs, IsFoundWith, searched, not_searched}
 use Rattle.cedar_service.proofs.Composed.{of_ok}
 use Rattle.cedar_service.proofs.Unfound.{unfound_as}
 use Rattle.cedar_service.proofs.searching.search_with.Goals as goal
