@@ -34,10 +34,11 @@ use std::alloc::{AllocError, Global};
 use std::io::Stderr;
 
 /// The tests, an array in JSON, that the policies fail: in their order a line of JSON for each to which they answer
-/// otherwise than it expects, with what differs, or that can't be asked, with the reason; and behind them one of how many
-/// pass and fail. A test is asked over its own entities, or over those that are given. The exit status is 1 where a test
-/// fails, and else 0. How far a long run is, is told on the terminal, if there is one. Templates, which decide nothing, are told as warnings. Refused where policies or entities can't be
-/// read, and where the text is no array of tests.
+/// otherwise than it expects, with what differs, or that can't be asked, with the reason; and behind them one of how
+/// many pass and fail. A test is asked over its own entities, or over those that are given. The exit status is 1 where a
+/// test fails, and else 0. How far a long run is, is told on the terminal, if there is one. Templates, which decide
+/// nothing, are told as warnings. Refused where policies or entities can't be read, and where the text is no array of
+/// tests.
 pub fn run_tests(
     alloc: Global,
     policies: Source<'_>,

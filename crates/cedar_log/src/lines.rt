@@ -191,7 +191,8 @@ fn action_text(alloc: Global, action: Option<&Value<'_>>) -> Result<String, Allo
 
 fn properties_text(alloc: Global, entity: Option<&Value<'_>>) -> Result<String, AllocError>
     requires { HaveNumbers (option_map (λ v. value_view v.now) entity) }
-    ensures { IfOk result (λ s. string_bytes s ≡ properties_text (option_map (λ v. value_view v.now) entity.entry)) }
+    ensures { IfOk result (λ s.
+        string_bytes s ≡ properties_text (option_map (λ v. value_view v.now) entity.entry)) }
 {
     optional_text(
         alloc,

@@ -140,7 +140,7 @@ fn check_own_keys<'a>(
     }
 }
 
-// Refuses the first key that comes again.
+// Refuses the first duplicate key.
 #[cold]
 fn refuse_repeated<'a>(
     alloc: Global,

@@ -12,8 +12,8 @@ use json::Scratch;
 use std::alloc::Global;
 
 /// The set of policies that the text says, as `policy_set_from_json` reads it. `Syntax` where the text is no JSON or
-/// nests deeper than `json_depth` of the limit, `DuplicateKey` where an object of it has a key twice, and `Refused` as
-/// `policy_set_from_json` answers.
+/// nests deeper than `json_depth` of the limit; `Refused` where an object of it has a key twice, with the way to the first
+/// such key, and as `policy_set_from_json` answers.
 pub fn policy_set_from_json_str(
     alloc: Global,
     text: &str,

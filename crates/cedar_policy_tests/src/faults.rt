@@ -140,7 +140,8 @@ fn item_text(alloc: Global, index: usize, why: &str) -> Result<String, AllocErro
 }
 
 fn member_text(alloc: Global, index: usize, key: &str, why: &str) -> Result<String, AllocError>
-    ensures { IfOk result (λ s. string_bytes s ≡ specs.place_text (at_index index ∷ at_key key.now ∷ []) why.now) }
+    ensures { IfOk result (λ s.
+        string_bytes s ≡ specs.place_text (at_index index ∷ at_key key.now ∷ []) why.now) }
 {
     let mut path = path_to(alloc, index)?;
     put_key(alloc, key, &mut path)?;

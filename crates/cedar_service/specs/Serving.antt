@@ -22,9 +22,10 @@ loaded_version l = version_of (engine_of l)
 -- what the engine decides, leaves and finds, whether it can be replaced, and where it is told
 abbrev pub offers_of : Decisions Loaded → Offers
 offers_of s =
-    offered (IsDecided (engine_of s.decider) (request_wins s.decider)) (IsAuthorized (engine_of s.decider)) (IsLeft (engine_of s.decider))
-    (finder_of (IsFound (engine_of s.decider) (request_wins s.decider)) (loaded_version s.decider) (candidate_count (engine_of s.decider))
-    s.page)
+    offered (IsDecided (engine_of s.decider) (request_wins s.decider)) (IsAuthorized (engine_of s.decider))
+    (IsLeft (engine_of s.decider))
+    (finder_of (IsFound (engine_of s.decider) (request_wins s.decider)) (loaded_version s.decider)
+    (candidate_count (engine_of s.decider)) s.page)
     (reloads_of s.allows_reload (Refuses s.decider)) (option_map string_bytes s.metadata)
 
 -- ---- one request

@@ -68,7 +68,8 @@ fn members_beside<'a>(
     alloc: Global,
     members: Vec<(&'a str, Value<'a>)>,
 ) -> Result<Vec<(&'a str, Value<'a>)>, AllocError>
-    ensures { IfOk result (λ ms. members_view ms.items ≡ without (codes "entities") (members_view members.entry.items)) }
+    ensures { IfOk result (λ ms.
+        members_view ms.items ≡ without (codes "entities") (members_view members.entry.items)) }
 {
     let mut rest: Vec<(&'a str, Value<'a>)> = Vec::new(alloc);
     'members: for member in members {

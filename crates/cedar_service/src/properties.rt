@@ -116,10 +116,12 @@ fn with_properties_of_action(
     extensions: &Extensions<'_>,
 ) -> Result<Option<Entities>, Refusal>
     ensures laid { IfOk result (λ o. IsWithProperties (extensions_view extensions.now) (calls_of extensions.now)
-        request_wins (laid_or stored.now laid) (IsActionNamed name.now) (option_map (λ v. value_view v.now) given.entry)
+        request_wins (laid_or stored.now laid) (IsActionNamed name.now)
+        (option_map (λ v. value_view v.now) given.entry)
         (laid_or stored.now o)) }
-    ensures refused { IfErr result (IsToldAs (AreWrongProperties (extensions_view extensions.now) (calls_of extensions.now)
-        request_wins (laid_or stored.now laid) (IsActionNamed name.now) (option_map (λ v. value_view v.now) given.entry)
+    ensures refused { IfErr result (IsToldAs (AreWrongProperties (extensions_view extensions.now)
+        (calls_of extensions.now) request_wins (laid_or stored.now laid) (IsActionNamed name.now)
+        (option_map (λ v. value_view v.now) given.entry)
         (codes "$.action.properties"))) }
 {
     match given {
@@ -140,8 +142,8 @@ fn lay_action(
     ensures laid { IfOk result (λ o. IsWithProperties (extensions_view extensions.now) (calls_of extensions.now)
         request_wins (laid_or stored.now laid) (IsActionNamed name.now) (Some (value_view given.now))
         (laid_or stored.now o)) }
-    ensures refused { IfErr result (IsToldAs (AreWrongProperties (extensions_view extensions.now) (calls_of extensions.now)
-        request_wins (laid_or stored.now laid) (IsActionNamed name.now) (Some (value_view given.now))
+    ensures refused { IfErr result (IsToldAs (AreWrongProperties (extensions_view extensions.now)
+        (calls_of extensions.now) request_wins (laid_or stored.now laid) (IsActionNamed name.now) (Some (value_view given.now))
         (codes "$.action.properties"))) }
 {
     match action_of(alloc, name) {
