@@ -16,11 +16,15 @@
 mod rows;
 mod words;
 
+use cedar_round_trips::file_comes_back;
 use rows::file_holds;
 use std::env::Env;
 use std::process::ExitCode;
 use std::rt::Files;
 use std::{env, io};
+
+// More levels than any policy of a file has that is read.
+const LEVELS: usize = 4000;
 
 /// All runs come to what is wanted.
 pub const DONE: u8 = 0;
@@ -53,10 +57,26 @@ fn files_hold<R: Env + Files + Input + AllocGlobal + Print>(rt: &R) -> io::Resul
     let mut files = env::args(rt)?;
     drop(files.next());
     let mut all_hold = true;
+    let mut as_json = false;
     'files: for file in files {
-        if !file_holds(rt, file.as_str())? {
+        if file.as_str() == "--json" {
+            as_json = true;
+        } else if !holds(rt, file.as_str(), as_json)? {
             all_hold = false;
         }
     }
     Ok(all_hold)
+}
+
+// Whether the runs of the table come to what is wanted; or where it is a file of policies that go to JSON, they come back.
+fn holds<R: Files + Input + AllocGlobal + Print>(
+    rt: &R,
+    file: &str,
+    as_json: bool,
+) -> io::Result<bool> {
+    if as_json {
+        file_comes_back(rt, file, LEVELS)
+    } else {
+        file_holds(rt, file)
+    }
 }

@@ -33,11 +33,15 @@ mod same;
 mod setting;
 
 use answer::Unanswered;
+use cedar_round_trips::table_comes_back;
 use rows::file_holds;
 use std::env;
 use std::env::Env;
 use std::process::ExitCode;
 use std::rt::Files;
+
+// More levels than any policy of a table has.
+const LEVELS: usize = 4000;
 
 /// All rows are answered as is wanted.
 pub const DONE: u8 = 0;
@@ -66,10 +70,26 @@ fn files_hold<R: Env + Files + AllocGlobal + Print>(rt: &R) -> Result<bool, Unan
     let mut files = env::args(rt)?;
     drop(files.next());
     let mut all_hold = true;
+    let mut as_json = false;
     'files: for file in files {
-        if !file_holds(rt, file.as_str())? {
+        if file.as_str() == "--json" {
+            as_json = true;
+        } else if !holds(rt, file.as_str(), as_json)? {
             all_hold = false;
         }
     }
     Ok(all_hold)
+}
+
+// Whether the rows of the file hold; or where they go to JSON, its policies come back.
+fn holds<R: Files + AllocGlobal + Print>(
+    rt: &R,
+    file: &str,
+    as_json: bool,
+) -> Result<bool, Unanswered> {
+    if as_json {
+        Ok(table_comes_back(rt, file, LEVELS)?)
+    } else {
+        file_holds(rt, file)
+    }
 }

@@ -6,8 +6,8 @@
 //!   question.
 //! - `notation` (and below it): reads what a line says: expressions, values, policies, errors, and the setting of
 //!   rows.
-//! - `answers` (and below it): rows that are evaluated in a setting. `judged`, `stepped`, `steps`: policies, what is
-//!   known of them, and steps.
+//! - `answers` (and below it): rows that are evaluated in a setting. `judged`, `stepped`, `steps`, `staged`: policies,
+//!   what is known of them, steps, and the same in stages.
 //! - `written` (and below it): rows of what is written in them, without policy or store. `levels`: what fewer and
 //!   more levels change.
 //! - `functions`: the functions that are stored for a case. `program`: what `cedar_rows` prints, and its statuses.
@@ -24,16 +24,21 @@ mod levels;
 mod notation;
 mod program;
 mod questions;
+mod staged;
 mod stepped;
 mod steps;
 mod written;
 
 use crate::notation::unanswered::Unanswered;
 use cases::file_holds;
+use cedar_round_trips::table_comes_back;
 use std::env;
 use std::env::Env;
 use std::process::ExitCode;
 use std::rt::Files;
+
+// More levels than any policy of a table has.
+const LEVELS: usize = 4000;
 
 /// All rows have the answer that is wanted.
 pub const DONE: u8 = 0;
@@ -62,10 +67,26 @@ fn files_hold<R: Env + Files + AllocGlobal + Print>(rt: &R) -> Result<bool, Unan
     let mut files = env::args(rt)?;
     drop(files.next());
     let mut all_hold = true;
+    let mut as_json = false;
     'files: for file in files {
-        if !file_holds(rt, file.as_str())? {
+        if file.as_str() == "--json" {
+            as_json = true;
+        } else if !holds(rt, file.as_str(), as_json)? {
             all_hold = false;
         }
     }
     Ok(all_hold)
+}
+
+// Whether the rows of the file hold; or where they go to JSON, its policies come back.
+fn holds<R: Files + AllocGlobal + Print>(
+    rt: &R,
+    file: &str,
+    as_json: bool,
+) -> Result<bool, Unanswered> {
+    if as_json {
+        Ok(table_comes_back(rt, file, LEVELS)?)
+    } else {
+        file_holds(rt, file)
+    }
 }

@@ -1,6 +1,6 @@
 //! What is known of policies, and what becomes of that in steps.
 use crate::answers::described::kind;
-use crate::answers::documents::put_partial_response;
+use crate::answers::documents::{put_partial_response, put_whole_response};
 use crate::answers::unknowns::put_unknowns;
 use crate::judged::{put_decision, put_named};
 use crate::levels::{Asked, Shortage, answer_within, met_in};
@@ -10,6 +10,7 @@ use crate::notation::settings::Setting;
 use crate::notation::shown::is_equal;
 use crate::notation::unanswered::Unanswered;
 use crate::notation::{add, both, split_first_word};
+use crate::staged::put_staged;
 use crate::steps::{Step, mapping, sheet, steps};
 use cedar_authorizer::authorizer::{
     AuthorizationError, Authorizer, ConcretizationError, Decision, ErrorHandling, PartialResponse,
@@ -115,6 +116,7 @@ fn asked_and_limit(argument: &str) -> (&str, &str) {
         ("mode", _) => (argument, ""),
         ("unknowns", _) => (argument, ""),
         ("json", _) => (argument, ""),
+        ("whole", _) => (argument, ""),
         (_, _) => ("", argument),
     }
 }
@@ -131,6 +133,7 @@ fn put_chained(
     match question {
         "in-steps" => put_in_steps(answer, setting, asked, limit, policies, steps),
         "one-by-one" => put_one_by_one(answer, setting, asked, limit, policies, steps),
+        "staged" => put_staged(answer, setting, asked, limit, policies, steps),
         _ => {
             let mut text = Answer::new(answer.alloc);
             put_in_steps(&mut text, setting, asked, limit, policies, steps);
@@ -372,22 +375,27 @@ fn put_answered(
 ) {
     match outcome {
         Ok(response) => put_asked(answer, asked, response),
-        Err(error) => {
-            answer.put(refusal(error));
-            answer.put(": ");
-            answer.show_refusal(error);
-            put_conflict(answer, error);
-        }
+        Err(error) => put_refused(answer, error),
     }
 }
 
-fn put_asked(answer: &mut Answer, asked: &str, response: &PartialResponse) {
+/// Why a step is refused.
+pub fn put_refused(answer: &mut Answer, error: &ReauthorizationError) {
+    answer.put(refusal(error));
+    answer.put(": ");
+    answer.show_refusal(error);
+    put_conflict(answer, error);
+}
+
+/// What is asked of the response.
+pub fn put_asked(answer: &mut Answer, asked: &str, response: &PartialResponse) {
     match split_first_word(asked) {
         ("get", id) => put_got(answer, response, id),
         ("readers", _) => put_readers(answer, response),
         ("mode", _) => put_modes(answer, response),
         ("unknowns", _) => put_unknowns(answer, response),
         ("json", _) => put_partial_response(answer, response),
+        ("whole", _) => put_whole_response(answer, response),
         ("request", _) => answer.show(response.request.as_ref()),
         (_, _) => {
             put_concrete(answer, response);
