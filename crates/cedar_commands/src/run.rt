@@ -2,6 +2,7 @@
 use crate::commands::cedar;
 use crate::files::Texts;
 use crate::links::link;
+use crate::relays::{is_relayed, relay};
 use cedar_cli::{
     Asked, ErrorHandling, Printed, Refusal, Source, Step, Way, authorize, authorize_and_explain,
     authorize_each, check_format, check_policies, check_strictly, evaluate_expression,
@@ -104,6 +105,9 @@ fn run<R: Files + Input + AllocGlobal>(
 ) -> Result<Printed, Refusal> {
     if name == "link" {
         return link(rt, matches);
+    }
+    if is_relayed(name, matches) {
+        return relay(rt, matches);
     }
     let texts = Texts::read(rt, matches)?;
     let printed = run_with(rt.alloc(), name, matches, &texts, terminal);
@@ -285,8 +289,8 @@ fn plan_with_unknown(
     }
 }
 
-// What the arguments say of the request and of the entities.
-fn read_question<'m, 't>(matches: &ArgMatches<'m>, texts: &'t Texts) -> Asked<'m, 't> {
+/// What the arguments say of the request and of the entities.
+pub(crate) fn read_question<'m, 't>(matches: &ArgMatches<'m>, texts: &'t Texts) -> Asked<'m, 't> {
     Asked {
         principal: matches.get_str("principal"),
         principal_type: matches.get_str("principal-type"),
@@ -301,7 +305,8 @@ fn read_question<'m, 't>(matches: &ArgMatches<'m>, texts: &'t Texts) -> Asked<'m
     }
 }
 
-fn way(matches: &ArgMatches<'_>) -> Way {
+/// In which way it is answered.
+pub(crate) fn way(matches: &ArgMatches<'_>) -> Way {
     Way {
         error_handling: error_handling(matches.get_str("error-handling")),
         limit: limit(matches),
