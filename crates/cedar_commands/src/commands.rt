@@ -244,6 +244,7 @@ fn resume<'a>(alloc: Global) -> Result<Arg<'a>, AllocError> {
         "A line that --save wrote, whose request and policies are taken further: whoever can write it can change the decision";
     option(alloc, "resume", "FILE", help)
         .conflicts_with("policies")?
+        .conflicts_with("policy-format")?
         .conflicts_with("template-linked")?
         .conflicts_with("principal")?
         .conflicts_with("principal-type")?

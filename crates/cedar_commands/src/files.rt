@@ -14,7 +14,7 @@ const INPUT: &str = "-";
 const INPUT_NAME: &str = "standard input";
 
 // The options that name one file.
-const FILE_OPTIONS: [&str; 9] = [
+const FILE_OPTIONS: [&str; 10] = [
     "policies",
     "resume",
     "template-linked",

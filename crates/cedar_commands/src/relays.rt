@@ -41,7 +41,10 @@ pub(crate) fn relay<R: Files + Input + AllocGlobal>(
 // Standard input can't be written.
 fn refuse_input_as_line(alloc: Global, matches: &ArgMatches<'_>) -> Result<(), Refusal> {
     if matches.get_str("save") == Some("-") {
-        let line = String::from_str(alloc, "`-` is standard input: the line is written to a file");
+        let line = String::from_str(
+            alloc,
+            "`-` is standard input: the line is written to a file",
+        );
         Err(refuse_with_line(alloc, line))
     } else {
         Ok(())

@@ -125,7 +125,7 @@ fn run_with(
     let policies = texts.policies();
     let asked = read_question(matches, texts);
     match name {
-        "diff" => compare(alloc, &asked, matches, texts),
+        "diff" => compare(alloc, &asked, matches, texts, terminal),
         "run-tests" => run_tests(
             alloc,
             policies,
@@ -134,7 +134,7 @@ fn run_with(
             way(matches),
             terminal,
         ),
-        "authorize" => decide(alloc, &asked, matches, texts),
+        "authorize" => decide(alloc, &asked, matches, texts, terminal),
         "partially-authorize" => match texts.columns() {
             Some(columns) => plan_with_unknown(alloc, policies, &asked, columns, matches),
             None => partial(alloc, &asked, matches, texts),
@@ -154,10 +154,18 @@ fn compare(
     asked: &Asked<'_, '_>,
     matches: &ArgMatches<'_>,
     texts: &Texts,
+    terminal: Option<Stderr>,
 ) -> Result<Printed, Refusal> {
     let requests = texts.requests().unwrap_or("");
-    let new = texts.new_policies();
-    compare_policies(alloc, texts.policies(), new, asked, requests, way(matches))
+    compare_policies(
+        alloc,
+        texts.policies(),
+        texts.new_policies(),
+        asked,
+        requests,
+        way(matches),
+        terminal,
+    )
 }
 
 // With `--requests` many, with `--explain` also why.
@@ -166,11 +174,12 @@ fn decide(
     asked: &Asked<'_, '_>,
     matches: &ArgMatches<'_>,
     texts: &Texts,
+    terminal: Option<Stderr>,
 ) -> Result<Printed, Refusal> {
     let policies = texts.policies();
     let way = way(matches);
     if let Some(requests) = texts.requests() {
-        return authorize_each(alloc, policies, asked, requests, way);
+        return authorize_each(alloc, policies, asked, requests, way, terminal);
     }
     if matches.get_flag("explain") {
         explain(alloc, policies, asked, way, !matches.get_flag("no-values"))
