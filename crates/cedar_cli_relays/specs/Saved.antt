@@ -19,6 +19,7 @@ use Rattle.cedar_authorizer.specs.declared.responses.partial_response.PartialRes
 use Rattle.cedar_authorizer.specs.responses.Rows.{mode_of, rows_view}
 use Rattle.cedar_authorizer.specs.Responding.{considered}
 use Rattle.cedar_authorizer.specs.Running.{errors_of, request_of}
+use Rattle.cedar_policy_json_reader.specs.JsonTexts.{depth_for}
 use Rattle.cedar_response_json.specs.Responses.{IsWritten}
 use Rattle.cedar_response_json_reader.specs.JsonTexts.{SaysSo}
 use Rattle.cedar_response_json_reader.specs.Responses.{Reads, response_said}
@@ -75,7 +76,7 @@ module _ (X : world.Extensions) (calls : StoredCalls) (names : List Text) where
 
   -- the line says this response
   abbrev pub SaysResponse : Knowledge → Text → PartialResponse → Type 0
-  SaysResponse k text r = SaysSo text (λ j. Reads X calls levels (response_said k levels names j) r)
+  SaysResponse k text r = SaysSo (depth_for levels) text (λ j. Reads X calls levels (response_said k levels names j) r)
 
   -- over this store the response is taken further by these steps, in its own way, and the stages are printed, of no
   -- policies but those that it has, and saved

@@ -6,6 +6,7 @@ use Rattle.cedar_model.specs.Rules.{StoredCalls}
 use Rattle.cedar_functions.specs.Functions.{Knowledge}
 use Rattle.cedar_layers.specs.declared.policies.entities.Entities.{Entities}
 use Rattle.cedar_authorizer.specs.declared.responses.partial_response.PartialResponse.{PartialResponse}
+use Rattle.cedar_policy_json_reader.specs.JsonTexts.{depth_for}
 use Rattle.cedar_response_json_reader.specs.declared.errors.ResponseJsonError.{ResponseJsonError}
 use Rattle.cedar_response_json_reader.specs.declared.errors.ResponseJsonError.TheVariants as errors
 use Rattle.cedar_response_json_reader.specs.JsonTexts.{IsTextRefusal}
@@ -21,7 +22,6 @@ use Rattle.cedar_cli_relays.specs.Saved.{configuration_as, SaysResponse}
 -- the error is not out of memory
 abbrev pub IsOfLine : ResponseJsonError → Type 0
 IsOfLine errors.Syntax = ⊤
-IsOfLine errors.DuplicateKey = ⊤
 IsOfLine (errors.Refused p r) = ⊤
 IsOfLine (errors.Memory e) = ⊥
 
@@ -31,7 +31,7 @@ module _ (X : world.Extensions) (calls : StoredCalls) (names : List Text) where
   pub record IsLineUnread (k : Knowledge) (text : Text) : Type 0 where
     pub error : ResponseJsonError
     pub of_line : IsOfLine error
-    pub refused : IsTextRefusal text (λ j. IsWhyNotRead X calls levels (response_said k levels names j)) error
+    pub refused : IsTextRefusal (depth_for levels) text (λ j. IsWhyNotRead X calls levels (response_said k levels names j)) error
 
   -- the entities can't be read, or over their store the steps are not taken
   pub data IsNotTakenOn (first : PartialResponse) (q : Asked) (steps : List Step) (w : Way) : Type 0 where

@@ -82,7 +82,6 @@ fn unread_line(alloc: Global, source: Source<'_>, error: ResponseJsonError) -> R
     match error {
         ResponseJsonError::Memory(_) => Refusal::Memory,
         ResponseJsonError::Syntax => unread_json(alloc, source, JsonError::Syntax),
-        ResponseJsonError::DuplicateKey => unread_json(alloc, source, JsonError::DuplicateKey),
         ResponseJsonError::Refused { path, reason } => {
             let name = source.name;
             let line = format!(in alloc; "{name}: {path}: {reason}");

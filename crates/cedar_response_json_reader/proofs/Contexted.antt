@@ -33,13 +33,11 @@ module _ (x : world.Extensions) (calls : StoredCalls) (n : ℕ) (t : Term) where
   -- a reason is why
   pub because_none : IsNone x calls n t → (e : ResponseJsonError) → IsRefusedAt (at_key (codes "context") ∷ []) reasons.NotAContext e → IsWhyNone x calls n t e
   because_none none errors.Syntax h = h
-  because_none none errors.DuplicateKey h = h
   because_none none (errors.Refused p r) h = (h.0, h.1, none)
   because_none none (errors.Memory m) h = tt
 
   memory_none : (e : ResponseJsonError) → IsMemory e → IsWhyNone x calls n t e
   memory_none errors.Syntax h = h
-  memory_none errors.DuplicateKey h = h
   memory_none (errors.Refused p r) h = absurd h
   memory_none (errors.Memory m) h = tt
 

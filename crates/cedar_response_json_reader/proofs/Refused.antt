@@ -15,46 +15,38 @@ use Rattle.cedar_response_json_reader.specs.Refusals.{IsRefusal, IsRefusedAt, Is
 
 pub refused_at : (T : Type 0) (path : List Step) (r : ResponseRefusal) (e : ResponseJsonError) → IsRefusedAt path r e → IsRefusal {T = T} (Err (record { path = path; reason = r })) e
 refused_at T path r errors.Syntax h = h
-refused_at T path r errors.DuplicateKey h = h
 refused_at T path r (errors.Refused p t) h = λ i. Err (record { path = sym h.0 i; reason = sym h.1 i })
 refused_at T path r (errors.Memory m) h = tt
 
 pub memory_refused : {T : Type 0} (said : Said T) (e : ResponseJsonError) → IsMemory e → IsRefusal said e
 memory_refused said errors.Syntax h = h
-memory_refused said errors.DuplicateKey h = h
 memory_refused said (errors.Refused p t) h = absurd h
 memory_refused said (errors.Memory m) h = tt
 
 pub refused_under : {T : Type 0} (s : Step) (said : Said T) (d e : ResponseJsonError) → IsRefusal said d → IsUnder s d e → IsRefusal (under s said) e
 refused_under s said d errors.Syntax h u = subst (λ (x : ResponseJsonError). IsRefusal said x) u h
-refused_under s said d errors.DuplicateKey h u = subst (λ (x : ResponseJsonError). IsRefusal said x) u h
 refused_under s said errors.Syntax (errors.Refused q t) h u = absurd u
-refused_under s said errors.DuplicateKey (errors.Refused q t) h u = absurd u
 refused_under s said (errors.Refused p r) (errors.Refused q t) h u = ap (under s) h ∙ (λ i. Err (record { path = sym u.0 i; reason = sym u.1 i }))
 refused_under s said (errors.Memory m) (errors.Refused q t) h u = absurd u
 refused_under s said d (errors.Memory m) h u = tt
 
 pub refused_made : {T U : Type 0} (f : T → U) (said : Said T) (e : ResponseJsonError) → IsRefusal said e → IsRefusal (made_of f said) e
 refused_made f said errors.Syntax h = h
-refused_made f said errors.DuplicateKey h = h
 refused_made f said (errors.Refused p t) h = ap (made_of f) h
 refused_made f said (errors.Memory m) h = tt
 
 pub refused_then : {T U : Type 0} (f : T → Said U) (said : Said T) (e : ResponseJsonError) → IsRefusal said e → IsRefusal (and_then f said) e
 refused_then f said errors.Syntax h = h
-refused_then f said errors.DuplicateKey h = h
 refused_then f said (errors.Refused p t) h = ap (and_then f) h
 refused_then f said (errors.Memory m) h = tt
 
 pub refused_first : {T U : Type 0} (a : Said T) (b : Said U) (e : ResponseJsonError) → IsRefusal a e → IsRefusal (both_said a b) e
 refused_first a b errors.Syntax h = h
-refused_first a b errors.DuplicateKey h = h
 refused_first a b (errors.Refused p t) h = ap (λ (s : Said _). both_said s b) h
 refused_first a b (errors.Memory m) h = tt
 
 pub refused_second : {T U : Type 0} (t : T) (b : Said U) (e : ResponseJsonError) → IsRefusal b e → IsRefusal (both_said (Ok t) b) e
 refused_second t b errors.Syntax h = h
-refused_second t b errors.DuplicateKey h = h
 refused_second t b (errors.Refused p r) h = ap (λ (s : Said _). both_said (Ok t) s) h
 refused_second t b (errors.Memory m) h = tt
 
@@ -86,7 +78,6 @@ none_done (Err r) = refl
 -- of Cedar's JSON of policies
 at_policies : {T : Type 0} (said : json.Said T) (p : JsonPath) (r : RefusalReason) (e : ResponseJsonError) → said ≡ Err (record { path = path_view p; reason = r }) → IsRefusedAt (path_view p) (reasons.InPolicy r) e → IsRefusal (of_policies said) e
 at_policies said p r errors.Syntax h of = of
-at_policies said p r errors.DuplicateKey h of = of
 at_policies said p r (errors.Refused q t) h of = ap of_policies h ∙ (λ i. Err (record { path = sym of.0 i; reason = sym of.1 i }))
 at_policies said p r (errors.Memory m) h of = tt
 

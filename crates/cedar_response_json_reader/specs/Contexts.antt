@@ -63,7 +63,6 @@ module _ (x : world.Extensions) (calls : StoredCalls) (n : ℕ) where
   -- that is why there is no context, or memory ran out
   abbrev pub IsWhyNone : Term → ResponseJsonError → Type 0
   IsWhyNone t errors.Syntax = ⊥
-  IsWhyNone t errors.DuplicateKey = ⊥
   IsWhyNone t (errors.Refused path reason) =
       (path_view path ≡ at_key (codes "context") ∷ []) × (reason ≡ reasons.NotAContext) × IsNone t
   IsWhyNone t (errors.Memory e) = ⊤

@@ -71,42 +71,37 @@ of_policies (Err r) = Err (record { path = r.path; reason = reasons.InPolicy r.r
 -- the error is that refusal, or out of memory
 abbrev pub IsRefusal : {T : Type 0} → Said T → ResponseJsonError → Type 0
 IsRefusal said errors.Syntax = ⊥
-IsRefusal said errors.DuplicateKey = ⊥
 IsRefusal said (errors.Refused path reason) = said ≡ Err (record { path = path_view path; reason = reason })
 IsRefusal said (errors.Memory error) = ⊤
 
 -- the error is that refusal of a part there, or out of memory
 abbrev pub IsRefusedAt : List Step → ResponseRefusal → ResponseJsonError → Type 0
 IsRefusedAt path reason errors.Syntax = ⊥
-IsRefusedAt path reason errors.DuplicateKey = ⊥
 IsRefusedAt path reason (errors.Refused p r) = (path_view p ≡ path) × (r ≡ reason)
 IsRefusedAt path reason (errors.Memory e) = ⊤
 
 -- the way is one step longer in front, and the reason is the same
 abbrev pub IsRefusedBelow : Step → ResponseJsonError → JsonPath → ResponseRefusal → Type 0
 IsRefusedBelow s errors.Syntax path reason = ⊥
-IsRefusedBelow s errors.DuplicateKey path reason = ⊥
 IsRefusedBelow s (errors.Refused p r) path reason = (path_view path ≡ s ∷ path_view p) × (reason ≡ r)
 IsRefusedBelow s (errors.Memory e) path reason = ⊥
 
 -- the second error is the first, of a part that this step leads to; or out of memory
 abbrev pub IsUnder : Step → ResponseJsonError → ResponseJsonError → Type 0
 IsUnder s e errors.Syntax = e ≡ errors.Syntax
-IsUnder s e errors.DuplicateKey = e ≡ errors.DuplicateKey
 IsUnder s e (errors.Refused path reason) = IsRefusedBelow s e path reason
 IsUnder s e (errors.Memory error) = ⊤
 
 -- memory ran out
 abbrev pub IsMemory : ResponseJsonError → Type 0
 IsMemory errors.Syntax = ⊥
-IsMemory errors.DuplicateKey = ⊥
 IsMemory (errors.Refused path reason) = ⊥
 IsMemory (errors.Memory error) = ⊤
 
 -- the error is this one of Cedar's JSON of policies
 abbrev pub IsOfPolicies : PolicyJsonError → ResponseJsonError → Type 0
 IsOfPolicies policies.Syntax e = e ≡ errors.Syntax
-IsOfPolicies policies.DuplicateKey e = e ≡ errors.DuplicateKey
+IsOfPolicies policies.DuplicateKey e = e ≡ errors.Syntax
 IsOfPolicies (policies.Refused path reason) e = IsRefusedAt (path_view path) (reasons.InPolicy reason) e
 IsOfPolicies (policies.Memory error) e = IsMemory e
 

@@ -13,7 +13,7 @@ use thiserror::Error;
 /// Why a part of the JSON of a response is refused.
 #[derive(Clone, Copy, Debug, Drop, Error)]
 pub enum ResponseRefusal {
-    /// A policy or an expression, as the reader of these refuses it.
+    /// A policy or an expression, as the reader of these refuses it; or a key that comes twice in an object.
     #[error("{0}")]
     InPolicy(RefusalReason),
     /// What stands at `errorHandling` is neither `skip` nor `forbidOnError`.
@@ -63,12 +63,9 @@ pub enum ResponseRefusal {
 /// Why the JSON of a response was not read.
 #[derive(Debug, Drop, Error)]
 pub enum ResponseJsonError {
-    /// The text is no JSON, or nests deeper than 128 levels.
+    /// The text is no JSON, or nests deeper than `json_depth` of the limit.
     #[error("not JSON")]
     Syntax,
-    /// The text is JSON, and an object of it has a key twice.
-    #[error("a key comes twice in an object")]
-    DuplicateKey,
     /// A part of the JSON value is refused: where it stands, and why.
     #[error("{path}: {reason}")]
     Refused {
@@ -131,7 +128,6 @@ impl ResponseJsonError {
     {
         match self {
             ResponseJsonError::Syntax => ResponseJsonError::Syntax,
-            ResponseJsonError::DuplicateKey => ResponseJsonError::DuplicateKey,
             ResponseJsonError::Refused { path, reason } => match longer(path, step) {
                 Ok(path) => ResponseJsonError::Refused { path, reason },
                 Err(error) => ResponseJsonError::Memory(error),
@@ -147,7 +143,7 @@ impl ResponseJsonError {
     {
         match error {
             PolicyJsonError::Syntax => ResponseJsonError::Syntax,
-            PolicyJsonError::DuplicateKey => ResponseJsonError::DuplicateKey,
+            PolicyJsonError::DuplicateKey => ResponseJsonError::Syntax,
             PolicyJsonError::Refused { path, reason } => ResponseJsonError::Refused {
                 path,
                 reason: ResponseRefusal::InPolicy(reason),

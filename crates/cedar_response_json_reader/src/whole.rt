@@ -3,13 +3,12 @@
 ghost use Rattle.std.specs.Prelude.{◌≡◌, Some, None, Ok, IfOk, IfErr, map, codes, option_map};
 ghost use Rattle.std.specs.Option.{option_and_then};
 ghost use Rattle.json.specs.Find.{as_str};
-ghost use Rattle.json.specs.Json.{document};
-ghost use Rattle.json.specs.Strict.{HasUniqueKeys};
 ghost use Rattle.json.specs.Value.{value_view};
 ghost use Rattle.cedar_decisions.specs.Decisions.{mode_view};
 ghost use Rattle.cedar_expressions.specs.View.{view};
 ghost use Rattle.cedar_extensions.specs.Extensions.{extensions_view, calls_of};
 ghost use Rattle.cedar_functions.specs.Functions.{knowledge};
+ghost use Rattle.cedar_policy_json_reader.specs.JsonTexts.{depth_for};
 ghost use Rattle.cedar_requests.specs.Requests.{entry_view, request_view};
 ghost use Rattle.cedar_authorizer.specs.responses.Responses.{errors_view};
 ghost use Rattle.cedar_authorizer.specs.responses.Rows.{mode_of};
@@ -18,7 +17,7 @@ ghost use Rattle.cedar_response_json.specs.Extensions.{names_of};
 ghost use Rattle.cedar_response_json_reader.specs.Refusals.{IsRefusal, both_said};
 ghost use Rattle.cedar_response_json_reader.specs.Contexts.{IsWhyNone};
 ghost use Rattle.cedar_response_json_reader.specs.Held.{told, IsRequestOf};
-ghost use Rattle.cedar_response_json_reader.specs.JsonTexts.{IsUnread, SaysSo, IsTextRefusal};
+ghost use Rattle.cedar_response_json_reader.specs.JsonTexts.{SaysSo, IsTextRefusal};
 ghost use Rattle.cedar_response_json_reader.specs.Responses as says;
 ghost use Rattle.cedar_response_json_reader.specs.Rows.{held_row, repeated_in};
 ghost use Rattle.cedar_response_json_reader.specs.Shapes.{part_at};
@@ -39,8 +38,9 @@ use cedar_extensions::Extensions;
 use cedar_functions::Functions;
 use cedar_layers::policies::Policy;
 use cedar_names::Var;
+use cedar_policy_json_reader::{json_depth, parse_deep_json};
 use cedar_requests::{EntityUIDEntry, Request};
-use json::{Error, Scratch, Value};
+use json::{Scratch, Value};
 use std::alloc::{AllocError, Global};
 use std::rc::Rc;
 
@@ -51,8 +51,8 @@ type Parts = (EntityUIDEntry, (EntityUIDEntry, (EntityUIDEntry, Expr)));
 type Reports = (Vec<(Report, Policy)>, Vec<AuthorizationError>);
 
 /// The response that the JSON text says, as `whole_response_from_json` reads it. `Syntax` where the text is no JSON or
-/// nests deeper than 128 levels, `DuplicateKey` where an object of it has a key twice, and else as
-/// `whole_response_from_json` refuses.
+/// nests deeper than `json_depth` of the limit, `Refused` where an object of it has a key twice, with the way to the
+/// first such key, and else as `whole_response_from_json` refuses.
 pub fn whole_response_from_json_str(
     alloc: Global,
     text: &str,
@@ -60,45 +60,26 @@ pub fn whole_response_from_json_str(
     functions: &Functions,
     limit: usize,
 ) -> Result<PartialResponse, ResponseJsonError>
-    ensures said { IfOk result (λ r. SaysSo text.now (λ j. says.Reads (extensions_view extensions.now)
+    ensures said { IfOk result (λ r. SaysSo (depth_for limit) text.now (λ j. says.Reads (extensions_view extensions.now)
         (calls_of extensions.now) limit
         (says.response_said (knowledge functions.now) limit (names_of extensions.now) j) r)) }
-    ensures refused { IfErr result (IsTextRefusal text.now (λ j. says.IsWhyNotRead (extensions_view extensions.now)
-        (calls_of extensions.now) limit
+    ensures refused { IfErr result (IsTextRefusal (depth_for limit) text.now
+        (λ j. says.IsWhyNotRead (extensions_view extensions.now) (calls_of extensions.now) limit
         (says.response_said (knowledge functions.now) limit (names_of extensions.now) j))) }
 {
     let mut scratch = Scratch::new(alloc);
-    match parse_json(alloc, text, &mut scratch) {
+    match parse_deep_json(alloc, text, &mut scratch, json_depth(limit)) {
         Ok(value) => match whole_response_from_json(alloc, &value, extensions, functions, limit) {
             Ok(response) => Ok(response),
             Err(error) => Err(error),
         },
-        Err(error) => Err(error),
-    }
-}
-
-// The JSON value that the text is.
-fn parse_json<'a>(
-    alloc: Global,
-    text: &'a str,
-    scratch: &'a mut Scratch,
-) -> Result<Value<'a>, ResponseJsonError>
-    ensures said { IfOk result (λ v. document text.now ≡ Some (value_view v)) }
-    ensures unique { IfOk result (λ v. HasUniqueKeys (value_view v)) }
-    ensures unread { IfErr result (IsUnread text.now) }
-{
-    match Value::parse_strict(alloc, text, scratch) {
-        Ok(value) => Ok(value),
-        Err(Error::Invalid) => Err(ResponseJsonError::Syntax),
-        Err(Error::TooLong) => Err(ResponseJsonError::Syntax),
-        Err(Error::DuplicateKey) => Err(ResponseJsonError::DuplicateKey),
-        Err(Error::OutOfMemory) => Err(ResponseJsonError::Memory(AllocError)),
+        Err(error) => Err(ResponseJsonError::of_policies(error)),
     }
 }
 
 /// The response that the JSON value says, with the extensions that it names, which must be these, in their order; within
-/// so many levels. Refuses with `Refused`, which holds the path of the part that is refused first, and the reason; `Memory`
-/// is out of memory.
+/// so many levels. Refuses with `Refused`, which holds the path of the part that is refused first, and the reason;
+/// `Memory` is out of memory.
 pub fn whole_response_from_json(
     alloc: Global,
     json: &Value<'_>,

@@ -1,6 +1,7 @@
 use Rattle.json.specs.Value.{value_view}
 use Rattle.cedar_extensions.specs.Extensions.{extensions_view, calls_of}
 use Rattle.cedar_functions.specs.Functions.{knowledge}
+use Rattle.cedar_policy_json_reader.specs.JsonTexts.{depth_for}
 use Rattle.cedar_response_json.specs.Extensions.{names_of}
 use Rattle.cedar_response_json_reader.specs.Responses.{response_said}
 use Rattle.cedar_response_json_reader.proofs.TextLemmas.{text_refused}
@@ -11,5 +12,5 @@ returns-in-Ok-clause-refused g c =
     let x = c.args.extensions.now in
     let n = c.args.limit in
     text_refused (extensions_view x) (calls_of x) n (response_said (knowledge c.args.functions.now) n (names_of x))
-    c.args.text.now (value_view c.in-Ok.value) c.in-Err-whole_response_from_json.error c.in-Ok.ensures.said
-    c.in-Err-whole_response_from_json.ensures.refused
+    (depth_for n) c.args.text.now (value_view c.in-Ok.value) c.in-Err-whole_response_from_json.error c.in-Ok.ensures.said
+    c.in-Ok.ensures.unrefused c.in-Err-whole_response_from_json.ensures.refused
