@@ -31,7 +31,8 @@ module _ (X : world.Extensions) (calls : StoredCalls) (names : List Text) where
   pub record IsLineUnread (k : Knowledge) (text : Text) : Type 0 where
     pub error : ResponseJsonError
     pub of_line : IsOfLine error
-    pub refused : IsTextRefusal (depth_for levels) text (λ j. IsWhyNotRead X calls levels (response_said k levels names j)) error
+    pub refused : IsTextRefusal (depth_for levels) text
+        (λ j. IsWhyNotRead X calls levels (response_said k levels names j)) error
 
   -- the entities can't be read, or over their store the steps are not taken
   pub data IsNotTakenOn (first : PartialResponse) (q : Asked) (steps : List Step) (w : Way) : Type 0 where
