@@ -112,6 +112,14 @@ pub record AreStages (c : Configuration) (ps : List model.Policy) (store : Entit
   pub headline :
       IsHeadline c (asked_of c (request_view (request_of first)) (store_view store)) ps chain (last_in first later)
 
+-- each step in turn makes a response of the one before or is not taken, from this response and this store on
+pub record AreTakenFrom (c : Configuration) (first : PartialResponse) (store : Entities) (steps : List Step)
+    (later : List Taken) : Type 0 where
+  pub last_store : Entities
+  pub chain : List ChainStep
+  pub steps_are : map (λ t. t.step) later ≡ steps
+  pub taken : AreTaken c first store later last_store chain
+
 -- ---- what is printed
 
 -- the decision that a response gives, if it gives one

@@ -115,6 +115,13 @@ module _ (c : Configuration) where
     for_partial_request : IsPartialUnread c.extensions c.calls q → AreNoStages ps store q steps
     for_stop : AreBegunAndStopped ps store q steps → AreNoStages ps store q steps
 
+  -- why steps are not taken from a response: there are more of them than are taken, one can't be read, or one can't be
+  -- taken
+  pub data AreNotTakenFrom (first : PartialResponse) (store : Entities) (steps : List Step) : Type 0 where
+    too_many_from : 1000 < length steps → AreNotTakenFrom first store steps
+    unread_from : IsOneUnread c.extensions c.calls steps → AreNotTakenFrom first store steps
+    stopped_from : AreStopped first store steps → AreNotTakenFrom first store steps
+
 -- ---- the whole
 
 -- of these policies over this store

@@ -21,7 +21,9 @@ use cedar_policy_core::extensions::Extensions;
 use cedar_policy_core::extensions::laws::functions_are_computed;
 use cedar_policy_core::parser::ParsedPolicies;
 use cedar_policy_core::parser::laws::known_calls_of_policies;
+use cedar_progress::{end_progress, tell_progress};
 use std::alloc::{AllocError, Global};
+use std::io::Stderr;
 use std::rc::RcStr;
 
 // What a request is called whose line is refused.
@@ -36,13 +38,15 @@ struct Answered {
 
 /// What the policies decide for each request, of which each line of the text has one in JSON, over the same entities:
 /// a line of JSON each, in their order, as `authorize` answers that request alone. A line that is refused has the
-/// reason, and its number. The exit status is 1 where a line is refused, and else 0.
+/// reason, and its number. The exit status is 1 where a line is refused, and else 0. How far a long run is, is told on the
+/// terminal, if there is one.
 pub fn authorize_each(
     alloc: Global,
     policies: Source<'_>,
     asked: &Asked<'_, '_>,
     requests: &str,
     way: Way,
+    terminal: Option<Stderr>,
 ) -> Result<Printed, Refusal>
     ensures answered { IfOk result (AreAuthorized policies.entry.text.now asked.now requests.now way) }
     ensures refused { IfErr result (IsToldFor (AreUnauthorized policies.entry.text.now asked.now)) }
@@ -51,7 +55,16 @@ pub fn authorize_each(
     known_calls_of_policies();
     let extensions = Extensions::all_available();
     let parsed = read_over(alloc, policies, &extensions)?;
-    let printed = answer_parsed(alloc, policies, &parsed, asked, requests, way, &extensions);
+    let printed = answer_parsed(
+        alloc,
+        policies,
+        &parsed,
+        asked,
+        requests,
+        way,
+        terminal,
+        &extensions,
+    );
     drop(parsed);
     printed
 }
@@ -63,6 +76,7 @@ fn answer_parsed(
     asked: &Asked<'_, '_>,
     requests: &str,
     way: Way,
+    terminal: Option<Stderr>,
     extensions: &Extensions<'_>,
 ) -> Result<Printed, Refusal>
     ensures answered { IfOk result (AreAnsweredBy (extensions_view extensions.now) (calls_of extensions.now)
@@ -79,7 +93,9 @@ fn answer_parsed(
         policies: &parsed.policies,
         way: as_json(way),
     };
-    answer_over_given_store(alloc, deciding, asked, requests, extensions, warnings)
+    answer_over_given_store(
+        alloc, deciding, asked, requests, terminal, extensions, warnings,
+    )
 }
 
 fn as_json(way: Way) -> Way
@@ -98,6 +114,7 @@ fn answer_over_given_store(
     deciding: Deciding<'_>,
     asked: &Asked<'_, '_>,
     requests: &str,
+    terminal: Option<Stderr>,
     extensions: &Extensions<'_>,
     mut warnings: String,
 ) -> Result<Printed, Refusal>
@@ -113,18 +130,20 @@ fn answer_over_given_store(
         deciding,
         entities: &store.entities,
         asked,
+        terminal,
     };
     let printed = answer_text(alloc, batch, requests, extensions, warnings);
     drop(store);
     Ok(printed?)
 }
 
-// What each request is asked over, and of whom.
+// What each request is asked over, and of whom, and where it is told how far that is, if anywhere.
 #[derive(Clone, Copy)]
 struct Batch<'p, 'm, 't> {
     deciding: Deciding<'p>,
     entities: &'p Entities,
     asked: &'p Asked<'m, 't>,
+    terminal: Option<Stderr>,
 }
 
 fn answer_text(
@@ -140,6 +159,7 @@ fn answer_text(
 {
     let lines = lines_of(alloc, requests)?;
     let printed = answer_lines(alloc, batch, &lines, extensions, warnings);
+    end_progress(batch.terminal, lines.len());
     drop(lines);
     printed
 }
@@ -170,6 +190,7 @@ fn answer_lines(
     'lines: for i in 0..lines.len() {
         let answered = answer_line(alloc, batch, lines[i], i + 1, extensions)?;
         put_answer(answered, &mut printed)?;
+        tell_progress(batch.terminal, "requests", i + 1, lines.len());
     }
     Ok(printed)
 }

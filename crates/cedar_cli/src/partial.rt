@@ -26,7 +26,7 @@ use crate::stores::{Store, given_store};
 use crate::undecided::push_why_open;
 use crate::visible::push_visible;
 use crate::warnings::{Deciding, push_errors, push_templates};
-use cedar_policy_core::ast::{EntityUID, Policy};
+use cedar_policy_core::ast::{EntityUID, Policy, PolicySet};
 use cedar_policy_core::authorizer::{Decision, PartialResponse, ReportedPolicies};
 use cedar_policy_core::extensions::Extensions;
 use cedar_policy_core::parser::ParsedPolicies;
@@ -136,6 +136,37 @@ fn partially_authorize_over_store(
     let printed = print_stages(alloc, deciding, &stages, warnings);
     drop(stages);
     Ok(printed?)
+}
+
+/// The stages as they are printed in this way: each response, of policies of this text, and the steps between them. The
+/// errors of policies and why the last one does not decide are told behind these warnings.
+pub fn print_stages_of(
+    alloc: Global,
+    source: Source<'_>,
+    policies: &PolicySet,
+    way: Way,
+    stages: &Stages<'_>,
+    warnings: String,
+) -> Result<Printed, AllocError>
+    ensures { IfOk result (ArePrintedAs way.is_json source.entry.text.now (policies_view policies.now)
+        stages.now.first stages.now.later.items) }
+{
+    match Places::of(alloc, source) {
+        Ok(places) => {
+            let deciding = Deciding {
+                places: &places,
+                policies,
+                way,
+            };
+            let printed = print_stages(alloc, deciding, stages, warnings);
+            drop(places);
+            printed
+        }
+        Err(error) => {
+            drop(warnings);
+            Err(error)
+        }
+    }
 }
 
 fn print_stages(

@@ -9,8 +9,8 @@ ghost use Rattle.cedar_authorizer.specs.Running.{request_of, IsRun};
 ghost use Rattle.cedar_cli.specs.Questions.{IsPartialRequest};
 ghost use Rattle.cedar_cli.specs.Inputs.{AreInputs};
 ghost use Rattle.cedar_cli.specs.Reasons.{IsToldFor, IsPartialUnread};
-ghost use Rattle.cedar_cli.specs.Stages.{last_in, partial_configuration, AreStages};
-ghost use Rattle.cedar_cli.specs.Stopped.{AreNoStages};
+ghost use Rattle.cedar_cli.specs.Stages.{last_in, partial_configuration, AreStages, AreTakenFrom};
+ghost use Rattle.cedar_cli.specs.Stopped.{AreNoStages, AreNotTakenFrom};
 
 use crate::asked::{Asked, Step, Way};
 use crate::limits::{STEPS, levels_within, too_many_steps};
@@ -25,14 +25,16 @@ use std::alloc::Global;
 
 /// The first response, and what each step in turn makes of it.
 #[derive(Drop)]
-pub(crate) struct Stages<'t> {
-    pub(crate) first: PartialResponse,
-    pub(crate) later: Vec<Taken<'t>>,
+pub struct Stages<'t> {
+    /// The first response.
+    pub first: PartialResponse,
+    /// The steps, with what each makes of the response before it.
+    pub later: Vec<Taken<'t>>,
 }
 
 impl<'t> Stages<'t> {
     /// The last response.
-    pub(crate) fn last(&self) -> &PartialResponse
+    pub fn last(&self) -> &PartialResponse
         ensures { result.now ≡ last_in self.now.first self.now.later.items }
     {
         last_of(&self.first, &self.later)
@@ -41,7 +43,7 @@ impl<'t> Stages<'t> {
 
 /// The stages of what is asked. All files of the steps are read before anything is decided, and too many steps are
 /// refused before that.
-pub(crate) fn all_stages<'t>(
+pub fn all_stages<'t>(
     alloc: Global,
     policies: &PolicySet,
     store: &Store,
@@ -92,6 +94,83 @@ fn stages_of<'t>(
         way.error_handling,
     );
     let first = first_stage(alloc, &authorizer, policies, store, asked, extensions)?;
+    let mut later: Vec<Taken<'t>> = Vec::new(alloc);
+    match take_all(
+        alloc,
+        &authorizer,
+        way.limit,
+        &first,
+        store,
+        inputs,
+        &mut later,
+        warnings,
+    ) {
+        Ok(()) => Ok(Stages { first, later }),
+        Err(refusal) => {
+            drop((first, later));
+            Err(refusal)
+        }
+    }
+}
+
+/// What each step in turn makes of this response, over this store or the step's own. All files of the steps are read
+/// before one is taken, and too many steps are refused before that; a step is refused as in the stages of what is asked.
+pub fn stages_from<'t>(
+    alloc: Global,
+    first: PartialResponse,
+    store: &Store,
+    steps: &[Step<'t>],
+    way: Way,
+    extensions: &Extensions<'_>,
+    warnings: &mut String,
+) -> Result<Stages<'t>, Refusal>
+    ensures first { IfOk result (λ s. s.first ≡ first) }
+    ensures taken { IfOk result (λ s. AreTakenFrom
+        (partial_configuration (extensions_view extensions.now) (calls_of extensions.now) way) first
+        store.now.entities steps.now s.later.items) }
+    ensures refused { IfErr result (IsToldFor (AreNotTakenFrom
+        (partial_configuration (extensions_view extensions.now) (calls_of extensions.now) way) first
+        store.now.entities steps.now)) }
+{
+    if STEPS < steps.len() {
+        drop(first);
+        return Err(too_many_steps(alloc, steps.len()));
+    }
+    match step_inputs(alloc, steps, extensions, warnings) {
+        Ok(inputs) => {
+            let stages = stages_behind(alloc, first, store, &inputs, way, extensions, warnings);
+            drop(inputs);
+            stages
+        }
+        Err(refusal) => {
+            drop(first);
+            Err(refusal)
+        }
+    }
+}
+
+fn stages_behind<'t>(
+    alloc: Global,
+    first: PartialResponse,
+    store: &Store,
+    inputs: &[StepInput<'t>],
+    way: Way,
+    extensions: &Extensions<'_>,
+    warnings: &mut String,
+) -> Result<Stages<'t>, Refusal>
+    ensures first { IfOk result (λ s. s.first ≡ first) }
+    ensures taken { (ss : List _) → AreInputs (extensions_view extensions.now) (calls_of extensions.now) ss inputs.now
+        → IfOk result (λ s. AreTakenFrom
+        (partial_configuration (extensions_view extensions.now) (calls_of extensions.now) way) first
+        store.now.entities ss s.later.items) }
+    ensures refused { (ss : List _) → AreInputs (extensions_view extensions.now) (calls_of extensions.now) ss inputs.now
+        → IfErr result (IsToldFor (AreNotTakenFrom
+        (partial_configuration (extensions_view extensions.now) (calls_of extensions.now) way) first
+        store.now.entities ss)) }
+{
+    let authorizer = Authorizer::new(extensions, levels_within(way.limit)).with_error_handling(
+        way.error_handling,
+    );
     let mut later: Vec<Taken<'t>> = Vec::new(alloc);
     match take_all(
         alloc,

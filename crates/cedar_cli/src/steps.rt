@@ -50,10 +50,13 @@ pub(crate) struct StepInput<'t> {
 /// A step, which it is of them, counted from 1, and the response that it makes of the one before; none where it is not
 /// taken.
 #[derive(Drop)]
-pub(crate) struct Taken<'t> {
-    pub(crate) number: usize,
-    pub(crate) step: Step<'t>,
-    pub(crate) response: Option<PartialResponse>,
+pub struct Taken<'t> {
+    /// Which it is of the steps, counted from 1.
+    pub number: usize,
+    /// The step.
+    pub step: Step<'t>,
+    /// The response behind it, if it is taken.
+    pub response: Option<PartialResponse>,
 }
 
 // The store that a step is taken over: its own, or else the one before.

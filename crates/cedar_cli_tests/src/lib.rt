@@ -2,7 +2,7 @@
 //!
 //! - `runs`: `run_tests`, the tests of a text that fail, each with what it fails in, and how many pass.
 //! - `one`: one test. `answers`: what is answered to its request. `results`: what is printed of tests, one behind the
-//!   other. `texts`: the texts of the parts of a test. `progress`: how far a run is, which nothing is promised of.
+//!   other. `texts`: the texts of the parts of a test. How far a run is, `cedar_progress` tells.
 //!
 //! The promise, from the texts and options on: `run_tests` prints a line of JSON, in the order of the tests, for each that
 //! fails, and none for another, and behind them how many pass and fail; the exit status is 1 where one fails
@@ -16,7 +16,6 @@
 
 mod answers;
 mod one;
-mod progress;
 mod results;
 mod runs;
 mod texts;

@@ -15,7 +15,6 @@ ghost use Rattle.cedar_cli_tests.specs.Results.{IsUntestedBy};
 
 use crate::answers::Tested;
 use crate::one::run_test;
-use crate::progress::{end_progress, tell_progress};
 use crate::results::Results;
 use cedar_cli::{
     Asked, Printed, Refusal, Source, Way, given_store, read_over, refuse_with_line, tell_templates,
@@ -29,6 +28,7 @@ use cedar_policy_core::extensions::laws::functions_are_computed;
 use cedar_policy_core::parser::ParsedPolicies;
 use cedar_policy_core::parser::laws::known_calls_of_policies;
 use cedar_policy_tests::{PolicyTest, TestsError, fault_in, parse_tests, tests_in};
+use cedar_progress::{end_progress, tell_progress};
 use json::{Scratch, Value};
 use std::alloc::{AllocError, Global};
 use std::io::Stderr;
@@ -214,7 +214,7 @@ fn run_each(
     'tests: for i in 0..tests.len() {
         let one = run_test(alloc, tested, store, asked, tests[i], i + 1, extensions)?;
         results.put(one)?;
-        tell_progress(tested.terminal, i + 1, tests.len());
+        tell_progress(tested.terminal, "tests", i + 1, tests.len());
     }
     Ok(results)
 }

@@ -209,7 +209,9 @@ fn partially_authorize<'a>(alloc: Global) -> Result<Command<'a>, AllocError> {
     let resource_type = option(alloc, "resource-type", "TYPE", "The type of the resource");
     let command = Command::new(alloc, "partially-authorize")
         .about("What is known of the decision where parts are unknown: those that are not given")
-        .arg(policies(alloc))?
+        .arg(policies_or_line(alloc)?)?
+        .arg(save(alloc)?)?
+        .arg(resume(alloc)?)?
         .arg(policy_format(alloc))?
         .arg(template_linked(alloc))?
         .arg(error_handling(alloc))?
@@ -223,6 +225,36 @@ fn partially_authorize<'a>(alloc: Global) -> Result<Command<'a>, AllocError> {
         .arg(principal_type.conflicts_with("principal")?)?
         .arg(resource_type.conflicts_with("resource")?)?;
     with_request(alloc, command)
+}
+
+fn policies_or_line<'a>(alloc: Global) -> Result<Arg<'a>, AllocError> {
+    option(alloc, "policies", "FILE", "The policies")
+        .short('p')
+        .required_unless_present("resume")
+}
+
+fn save<'a>(alloc: Global) -> Result<Arg<'a>, AllocError> {
+    let help =
+        "Writes the whole answer to this file too, as a line of JSON that --resume takes further: sign it";
+    option(alloc, "save", "FILE", help).conflicts_with("sql")
+}
+
+fn resume<'a>(alloc: Global) -> Result<Arg<'a>, AllocError> {
+    let help =
+        "A line that --save wrote, whose request and policies are taken further: whoever can write it can change the decision";
+    option(alloc, "resume", "FILE", help)
+        .conflicts_with("policies")?
+        .conflicts_with("policy-format")?
+        .conflicts_with("template-linked")?
+        .conflicts_with("principal")?
+        .conflicts_with("principal-type")?
+        .conflicts_with("action")?
+        .conflicts_with("resource")?
+        .conflicts_with("resource-type")?
+        .conflicts_with("context")?
+        .conflicts_with("request-json")?
+        .conflicts_with("error-handling")?
+        .conflicts_with("sql")
 }
 
 fn sql<'a>(alloc: Global) -> Result<Arg<'a>, AllocError> {

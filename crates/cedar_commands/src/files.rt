@@ -14,8 +14,9 @@ const INPUT: &str = "-";
 const INPUT_NAME: &str = "standard input";
 
 // The options that name one file.
-const FILE_OPTIONS: [&str; 9] = [
+const FILE_OPTIONS: [&str; 10] = [
     "policies",
+    "resume",
     "template-linked",
     "with",
     "tests",
@@ -51,6 +52,7 @@ pub(crate) struct Texts {
     requests: Option<File>,
     entities: Option<File>,
     columns: Option<File>,
+    line: Option<File>,
     steps: Vec<StepFiles>,
 }
 
@@ -69,6 +71,7 @@ impl Texts {
         let requests = text_of(rt, matches.get_str("requests"))?;
         let entities = text_of(rt, matches.get_str("entities"))?;
         let columns = text_of(rt, matches.get_str("sql"))?;
+        let line = text_of(rt, matches.get_str("resume"))?;
         let steps = step_files(rt, matches)?;
         Ok(Texts {
             policies,
@@ -79,6 +82,7 @@ impl Texts {
             requests,
             entities,
             columns,
+            line,
             steps,
         })
     }
@@ -124,6 +128,11 @@ impl Texts {
     /// The columns of a table, if their file is named.
     pub(crate) fn columns(&self) -> Option<Source<'_>> {
         source(&self.columns)
+    }
+
+    /// The line that is taken further, if its file is named.
+    pub(crate) fn line(&self) -> Option<Source<'_>> {
+        source(&self.line)
     }
 
     /// The steps, in their order; whether there may be more entities than those of a step, and how many ancestors these

@@ -71,7 +71,7 @@ pub(crate) fn link<R: Files + Input + AllocGlobal>(
     let added = added_link(rt.alloc(), &policies, &links, matches);
     drop((policies, links));
     let AddedLink { policy, list } = added?;
-    write_list(rt, matches.get_str("template-linked"), list.as_str())?;
+    write_in_place(rt, matches.get_str("template-linked"), list.as_str())?;
     drop(list);
     Ok(Printed {
         output: policy,
@@ -122,16 +122,17 @@ fn source_or<'a>(file: &'a Option<File>, name: &'static str, text: &'static str)
     }
 }
 
-// Writes the list beside the file, and puts it in the file's place, so that a list is there at any time.
-fn write_list<R: Files + AllocGlobal>(
+/// Writes the text beside the file, if one is named, and puts it in the file's place, so that a whole text is there at any
+/// time.
+pub(crate) fn write_in_place<R: Files + AllocGlobal>(
     rt: &R,
     name: Option<&str>,
-    list: &str,
+    text: &str,
 ) -> Result<(), Refusal> {
     match name {
         Some(name) => {
             let beside = format!(in rt.alloc(); "{name}.new")?;
-            let written = put_list(rt, name, beside.as_str(), list);
+            let written = put_text(rt, name, beside.as_str(), text);
             drop(beside);
             match written {
                 Ok(()) => Ok(()),
@@ -142,8 +143,8 @@ fn write_list<R: Files + AllocGlobal>(
     }
 }
 
-fn put_list<R: Files>(rt: &R, name: &str, beside: &str, list: &str) -> io::Result<()> {
-    fs::write(rt, beside, list)?;
+fn put_text<R: Files>(rt: &R, name: &str, beside: &str, text: &str) -> io::Result<()> {
+    fs::write(rt, beside, text)?;
     fs::rename(rt, beside, name)
 }
 

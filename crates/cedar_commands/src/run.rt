@@ -2,6 +2,7 @@
 use crate::commands::cedar;
 use crate::files::Texts;
 use crate::links::link;
+use crate::relays::{is_relayed, relay};
 use cedar_cli::{
     Asked, ErrorHandling, Printed, Refusal, Source, Step, Way, authorize, authorize_and_explain,
     authorize_each, check_format, check_policies, check_strictly, evaluate_expression,
@@ -105,6 +106,9 @@ fn run<R: Files + Input + AllocGlobal>(
     if name == "link" {
         return link(rt, matches);
     }
+    if is_relayed(name, matches) {
+        return relay(rt, matches);
+    }
     let texts = Texts::read(rt, matches)?;
     let printed = run_with(rt.alloc(), name, matches, &texts, terminal);
     drop(texts);
@@ -121,7 +125,7 @@ fn run_with(
     let policies = texts.policies();
     let asked = read_question(matches, texts);
     match name {
-        "diff" => compare(alloc, &asked, matches, texts),
+        "diff" => compare(alloc, &asked, matches, texts, terminal),
         "run-tests" => run_tests(
             alloc,
             policies,
@@ -130,7 +134,7 @@ fn run_with(
             way(matches),
             terminal,
         ),
-        "authorize" => decide(alloc, &asked, matches, texts),
+        "authorize" => decide(alloc, &asked, matches, texts, terminal),
         "partially-authorize" => match texts.columns() {
             Some(columns) => plan_with_unknown(alloc, policies, &asked, columns, matches),
             None => partial(alloc, &asked, matches, texts),
@@ -150,10 +154,18 @@ fn compare(
     asked: &Asked<'_, '_>,
     matches: &ArgMatches<'_>,
     texts: &Texts,
+    terminal: Option<Stderr>,
 ) -> Result<Printed, Refusal> {
     let requests = texts.requests().unwrap_or("");
-    let new = texts.new_policies();
-    compare_policies(alloc, texts.policies(), new, asked, requests, way(matches))
+    compare_policies(
+        alloc,
+        texts.policies(),
+        texts.new_policies(),
+        asked,
+        requests,
+        way(matches),
+        terminal,
+    )
 }
 
 // With `--requests` many, with `--explain` also why.
@@ -162,11 +174,12 @@ fn decide(
     asked: &Asked<'_, '_>,
     matches: &ArgMatches<'_>,
     texts: &Texts,
+    terminal: Option<Stderr>,
 ) -> Result<Printed, Refusal> {
     let policies = texts.policies();
     let way = way(matches);
     if let Some(requests) = texts.requests() {
-        return authorize_each(alloc, policies, asked, requests, way);
+        return authorize_each(alloc, policies, asked, requests, way, terminal);
     }
     if matches.get_flag("explain") {
         explain(alloc, policies, asked, way, !matches.get_flag("no-values"))
@@ -285,8 +298,8 @@ fn plan_with_unknown(
     }
 }
 
-// What the arguments say of the request and of the entities.
-fn read_question<'m, 't>(matches: &ArgMatches<'m>, texts: &'t Texts) -> Asked<'m, 't> {
+/// What the arguments say of the request and of the entities.
+pub(crate) fn read_question<'m, 't>(matches: &ArgMatches<'m>, texts: &'t Texts) -> Asked<'m, 't> {
     Asked {
         principal: matches.get_str("principal"),
         principal_type: matches.get_str("principal-type"),
@@ -301,7 +314,8 @@ fn read_question<'m, 't>(matches: &ArgMatches<'m>, texts: &'t Texts) -> Asked<'m
     }
 }
 
-fn way(matches: &ArgMatches<'_>) -> Way {
+/// In which way it is answered.
+pub(crate) fn way(matches: &ArgMatches<'_>) -> Way {
     Way {
         error_handling: error_handling(matches.get_str("error-handling")),
         limit: limit(matches),

@@ -23,16 +23,19 @@ use cedar_policy_core::extensions::Extensions;
 use cedar_policy_core::extensions::laws::functions_are_computed;
 use cedar_policy_core::parser::ParsedPolicies;
 use cedar_policy_core::parser::laws::known_calls_of_policies;
+use cedar_progress::{end_progress, tell_progress};
 use std::alloc::{AllocError, Global};
+use std::io::Stderr;
 
 // What a request is called whose line is refused.
 const REQUEST_NAME: &str = "the request";
 
 /// What the old and the new policies answer differently to requests over the same entities, of which each line of the
-/// text has one in JSON, or is a line of a log, whose request is asked: in their order a line of JSON for each request to which the decisions differ, or a reason or an
-/// error of one answer is none of the other; and for each that is refused a line with the reason, and its number. The
-/// exit status is 1 where a line is refused, else 2 where anything differs, and else 0. Templates, which decide nothing,
-/// are told as warnings. Refused where policies or entities can't be read.
+/// text has one in JSON, or is a line of a log, whose request is asked: in their order a line of JSON for each request to
+/// which the decisions differ, or a reason or an error of one answer is none of the other; and for each that is refused a
+/// line with the reason, and its number. The exit status is 1 where a line is refused, else 2 where anything differs, and
+/// else 0. How far a long run is, is told on the terminal, if there is one. Templates, which decide nothing, are told as
+/// warnings. Refused where policies or entities can't be read.
 pub fn compare_policies(
     alloc: Global,
     old: Source<'_>,
@@ -40,6 +43,7 @@ pub fn compare_policies(
     asked: &Asked<'_, '_>,
     requests: &str,
     way: Way,
+    terminal: Option<Stderr>,
 ) -> Result<Printed, Refusal>
     ensures compared { IfOk result
         (AreCompared old.entry.text.now new.entry.text.now asked.now requests.now way) }
@@ -59,6 +63,7 @@ pub fn compare_policies(
         asked,
         requests,
         way,
+        terminal,
         &extensions,
         warnings,
     );
@@ -87,6 +92,7 @@ fn compare_read(
     asked: &Asked<'_, '_>,
     requests: &str,
     way: Way,
+    terminal: Option<Stderr>,
     extensions: &Extensions<'_>,
     warnings: Result<String, AllocError>,
 ) -> Result<Printed, Refusal>
@@ -106,6 +112,7 @@ fn compare_read(
         way,
         asked,
         requests,
+        terminal,
         extensions,
         warnings,
     );
@@ -121,6 +128,7 @@ fn compare_text(
     way: Way,
     asked: &Asked<'_, '_>,
     requests: &str,
+    terminal: Option<Stderr>,
     extensions: &Extensions<'_>,
     warnings: String,
 ) -> Result<Printed, AllocError>
@@ -129,7 +137,10 @@ fn compare_text(
         way (asked_lines requests.now)) }
 {
     let lines = lines_of(alloc, requests)?;
-    let compared = compare_lines(alloc, old, new, entities, way, asked, &lines, extensions);
+    let compared = compare_lines(
+        alloc, old, new, entities, way, asked, &lines, terminal, extensions,
+    );
+    end_progress(terminal, lines.len());
     drop(lines);
     let all = compared?;
     Ok(print_all(all, warnings))
@@ -162,6 +173,7 @@ fn compare_lines(
     way: Way,
     asked: &Asked<'_, '_>,
     lines: &[&str],
+    terminal: Option<Stderr>,
     extensions: &Extensions<'_>,
 ) -> Result<Comparisons, AllocError>
     ensures { IfOk result (AreLinesOver (extensions_view extensions.now) (calls_of extensions.now)
@@ -182,6 +194,7 @@ fn compare_lines(
             extensions,
         )?;
         all.put(one)?;
+        tell_progress(terminal, "requests", i + 1, lines.len());
     }
     Ok(all)
 }
