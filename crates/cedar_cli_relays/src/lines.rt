@@ -7,16 +7,16 @@ ghost use Rattle.cedar_response_json.specs.Extensions.{names_of};
 ghost use Rattle.cedar_cli_relays.specs.Saved.{IsLineOf, SaysResponse};
 ghost use Rattle.cedar_cli_relays.specs.Unresumed.{IsOfLine, IsLineUnread};
 
-use cedar_cli::{Refusal, Source, line_of, refuse_with_line, unread_json};
+use cedar_cli::{Refusal, Source, line_of, refuse_with_line};
 use cedar_policy_core::authorizer::PartialResponse;
-use cedar_policy_core::entities::json::JsonError;
 use cedar_policy_core::extensions::Extensions;
 use cedar_policy_core::parser::Functions;
+use cedar_policy_json_reader::json_depth;
 use cedar_response_json::whole_response_to_json;
 use cedar_response_json_reader::{ResponseJsonError, whole_response_from_json_str};
 use std::alloc::{AllocError, Global};
 
-// How many levels an expression of a line may have: more than a line of JSON nests.
+// How many levels an expression of a line may have, as those of a text.
 const LEVELS: usize = 4000;
 
 /// The response in JSON, whole, on a line.
@@ -33,8 +33,8 @@ pub(crate) fn line_of_response(
     line
 }
 
-/// The response that the line says. Refused as `whole_response_from_json_str` refuses it: `NAME: $.path: why`, or where it
-/// is no JSON, the line and the column.
+/// The response that the line says. Refused as `whole_response_from_json_str` refuses it: `NAME: $.path: why`, or that it is
+/// no JSON or nests too deep.
 pub(crate) fn response_of_line(
     alloc: Global,
     source: Source<'_>,
@@ -81,7 +81,13 @@ fn unread_line(alloc: Global, source: Source<'_>, error: ResponseJsonError) -> R
 {
     match error {
         ResponseJsonError::Memory(_) => Refusal::Memory,
-        ResponseJsonError::Syntax => unread_json(alloc, source, JsonError::Syntax),
+        ResponseJsonError::Syntax => {
+            let (name, most) = (source.name, json_depth(LEVELS));
+            let line = format!(in alloc;
+                "{name}: not JSON, or more than {most} arrays and objects, one in another"
+            );
+            refuse_with_line(alloc, line)
+        }
         ResponseJsonError::Refused { path, reason } => {
             let name = source.name;
             let line = format!(in alloc; "{name}: {path}: {reason}");

@@ -47,9 +47,7 @@ pub fn partially_authorize_and_save(
         (extensions_view extensions.now) (calls_of extensions.now) policies.entry.text.now asked.now steps.now way)) }
 {
     let parsed = read_over(alloc, policies, extensions)?;
-    let saved = save_parsed(
-        alloc, policies, &parsed, asked, steps, way, extensions,
-    );
+    let saved = save_parsed(alloc, policies, &parsed, asked, steps, way, extensions);
     drop(parsed);
     saved
 }
