@@ -1,3 +1,5 @@
 pub mod Leaves
 pub mod Levels
 pub mod Annotations
+pub mod Scopes
+pub mod Policies

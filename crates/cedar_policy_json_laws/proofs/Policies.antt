@@ -1,0 +1,143 @@
+-- Policies and templates read back.
+use Rattle.std.proofs.Common.{◌≡◌, ℕ, Bool, true, false, true≢false, cond, ◌||◌, is_some, List, [], ◌∷◌, ◌++◌, Option, Some, None, Ok, refl, sym, ap, ◌∙◌, subst, codes}
+use Rattle.json.specs.Json.{Json, string, array}
+use Rattle.json.specs.Value.{items_of}
+use Rattle.cedar_model.specs.Terms.{Text, Literal, bool_literal, Variable, principal, action, resource, Term, literal}
+use Rattle.cedar_model.specs.Agreement.{no_slots}
+use Rattle.cedar_model.specs.Policies.{Effect, permit, forbid}
+use Rattle.cedar_model.specs.World.{Slots}
+use Rattle.cedar_functions.specs.Functions.{Knowledge}
+use Rattle.cedar_layers.specs.Policies.{PolicyView}
+use Rattle.cedar_text_printer.specs.Policies.{effect_text}
+use Rattle.cedar_policy_json_reader.specs.Expressions.{Reading, expression_said}
+use Rattle.cedar_policy_json_reader.specs.Paths.{at_key, at_index}
+use Rattle.cedar_policy_json_reader.specs.Policies.{effect_said, kind_of_said, joined, conditions_said, policy_made, policy_by, policy_said, template_said}
+use Rattle.cedar_policy_json_reader.specs.Refusals.{Said, under, before, both_said, made_of, and_then}
+use Rattle.cedar_policy_json_reader.specs.Scopes.{truth, scope_said}
+use Rattle.cedar_policy_json_writer.specs.Expressions.{expression_json}
+use Rattle.cedar_policy_json_writer.specs.Policies.{behind, principal_scope, action_scope, resource_scope, when_json, condition_items, conditions_json, policy_json, template_json, with_slots}
+use Rattle.cedar_policy_json_writer.specs.Scopes.{Scope, scope_of, head_json, is_truth, is_true_literal}
+use Rattle.cedar_policy_json_laws.specs.Policies.{IsReadableHead, IsReadablePolicy, PolicyReadsBack, TemplateReadsBack}
+use Rattle.cedar_policy_json_laws.proofs.Annotations.{annotations_back}
+use Rattle.cedar_policy_json_laws.proofs.Levels.{expression_reads_back}
+use Rattle.cedar_policy_json_laws.proofs.Scopes.{scope_back}
+
+effect_back : (e : Effect) → effect_said (string (effect_text e)) ≡ Ok e
+effect_back permit = refl
+effect_back forbid = refl
+
+-- ---- the condition
+
+never : {A : Type 0} → false ≡ true → A
+never e = absurd (true≢false (sym e))
+
+true_is : (l : Literal) → is_true_literal l ≡ true → literal l ≡ truth
+true_is (bool_literal b) e = ap (λ (c : Bool). literal (bool_literal c)) e
+true_is _ e = never e
+
+truth_is : (t : Term) → is_truth t ≡ true → t ≡ truth
+truth_is (literal l) e = true_is l e
+truth_is _ e = never e
+
+-- behind one `when`
+when_back : (says : Reading) (t : Term) → says (expression_json no_slots t) ≡ Ok t → conditions_said says (array (items_of (when_json no_slots t ∷ []))) ≡ Ok t
+when_back says t h =
+    ap (λ (s : Said Term). made_of joined (before (under (at_index 0) (and_then (λ q. kind_of_said q.0 q.1) (both_said (Ok (codes "when")) (under (at_key (codes "body")) s)))) (Ok []))) h
+
+-- behind one, or behind none where it is `true`
+condition_by : (says : Reading) (t : Term) (b : Bool) → is_truth t ≡ b → (is_truth t ≡ false → says (expression_json no_slots t) ≡ Ok t)
+    → conditions_said says (array (items_of (cond b [] (when_json no_slots t ∷ [])))) ≡ Ok t
+condition_by says t true e h = ap Ok (sym (truth_is t e))
+condition_by says t false e h = when_back says t (h e)
+
+-- ---- the scope
+
+stands : (is_open : Bool) (o : Option Scope) → IsReadableHead is_open o → is_some o ≡ true
+stands is_open None h = absurd h
+stands is_open (Some x) h = refl
+
+-- behind one that stands
+behind_is : (is_open : Bool) (o other : Option Scope) → IsReadableHead is_open o → behind o other ≡ other
+behind_is is_open None other h = absurd h
+behind_is is_open (Some x) other h = refl
+
+-- what stands in the scope is no condition
+no_condition : (b : Bool) (s : Slots) (t : Term) → b ≡ true → condition_items b s t ≡ []
+no_condition b s t h = ap (λ (c : Bool). condition_items c s t) h
+
+-- ---- all of it, where no slot is linked
+
+module _ (is_open : Bool) (k : Knowledge) (n : ℕ) (p : PolicyView) (h : IsReadablePolicy is_open k n p) where
+  action_is : action_scope (with_slots p no_slots) ≡ scope_of no_slots action p.action_constraint
+  action_is = behind_is is_open (principal_scope (with_slots p no_slots)) (scope_of no_slots action p.action_constraint) h.principal_stands
+
+  action_found : IsReadableHead is_open (action_scope (with_slots p no_slots))
+  action_found = subst (IsReadableHead is_open) (sym action_is) h.action_stands
+
+  resource_is : resource_scope (with_slots p no_slots) ≡ scope_of no_slots resource p.resource_constraint
+  resource_is = behind_is is_open (action_scope (with_slots p no_slots)) (scope_of no_slots resource p.resource_constraint) action_found
+
+  resource_found : IsReadableHead is_open (resource_scope (with_slots p no_slots))
+  resource_found = subst (IsReadableHead is_open) (sym resource_is) h.resource_stands
+
+  action_back : scope_said is_open action (head_json (action_scope (with_slots p no_slots))) ≡ Ok p.action_constraint
+  action_back = ap (λ (o : Option Scope). scope_said is_open action (head_json o)) action_is ∙ scope_back is_open action p.action_constraint h.action_stands
+
+  resource_back : scope_said is_open resource (head_json (resource_scope (with_slots p no_slots))) ≡ Ok p.resource_constraint
+  resource_back = ap (λ (o : Option Scope). scope_said is_open resource (head_json o)) resource_is ∙ scope_back is_open resource p.resource_constraint h.resource_stands
+
+  -- the policy's own condition is the only one
+  conditions_are : conditions_json (with_slots p no_slots) ≡ array (items_of (cond (is_truth p.when_clause) [] (when_json no_slots p.when_clause ∷ [])))
+  conditions_are =
+      λ i. array (items_of (((no_condition (is_some (principal_scope (with_slots p no_slots))) no_slots p.principal_constraint (stands is_open (principal_scope (with_slots p no_slots)) h.principal_stands) i
+      ++ no_condition (is_some (action_scope (with_slots p no_slots))) no_slots p.action_constraint (stands is_open (action_scope (with_slots p no_slots)) action_found) i)
+      ++ no_condition (is_some (resource_scope (with_slots p no_slots))) no_slots p.resource_constraint (stands is_open (resource_scope (with_slots p no_slots)) resource_found) i)
+      ++ condition_items false no_slots p.when_clause))
+
+  conditions_back : conditions_said (expression_said k n) (conditions_json (with_slots p no_slots)) ≡ Ok p.when_clause
+  conditions_back =
+      ap (λ (j : Json). conditions_said (expression_said k n) j) conditions_are
+      ∙ condition_by (expression_said k n) p.when_clause (is_truth p.when_clause) refl (λ e. expression_reads_back p.when_clause k n (h.has_condition e))
+
+module _ (is_open : Bool) (k : Knowledge) (n : ℕ) (e : Effect) (id : Text) (x y z t : Term) (s : Slots) where
+  abbrev annotated : List (Text × Text) → PolicyView
+  annotated ps = record {
+    effect = e;
+    id = id;
+    annotations = ps;
+    principal_constraint = x;
+    action_constraint = y;
+    resource_constraint = z;
+    when_clause = t;
+    slots = s;
+  }
+
+  by_annotations : (ps : List (Text × Text)) → IsReadablePolicy is_open k n (annotated ps)
+      → policy_by is_open (expression_said k n) id (policy_json (with_slots (annotated ps) no_slots)) ≡ Ok (with_slots (annotated ps) no_slots)
+  by_annotations [] h =
+      λ i. made_of (policy_made id) (both_said (under (at_key (codes "effect")) (effect_back e i))
+      (both_said (both_said (both_said (under (at_key (codes "principal")) (scope_back is_open principal x h.principal_stands i))
+      (both_said (under (at_key (codes "action")) (action_back is_open k n (annotated []) h i)) (under (at_key (codes "resource")) (resource_back is_open k n (annotated []) h i))))
+      (under (at_key (codes "conditions")) (conditions_back is_open k n (annotated []) h i))) (Ok [])))
+  by_annotations (a ∷ more) h =
+      λ i. made_of (policy_made id) (both_said (under (at_key (codes "effect")) (effect_back e i))
+      (both_said (both_said (both_said (under (at_key (codes "principal")) (scope_back is_open principal x h.principal_stands i))
+      (both_said (under (at_key (codes "action")) (action_back is_open k n (annotated (a ∷ more)) h i)) (under (at_key (codes "resource")) (resource_back is_open k n (annotated (a ∷ more)) h i))))
+      (under (at_key (codes "conditions")) (conditions_back is_open k n (annotated (a ∷ more)) h i)))
+      (under (at_key (codes "annotations")) (annotations_back (a ∷ more) h.under_words h.in_order i))))
+
+whole_back : (is_open : Bool) (k : Knowledge) (n : ℕ) (p : PolicyView) → IsReadablePolicy is_open k n p
+    → policy_by is_open (expression_said k n) p.id (policy_json (with_slots p no_slots)) ≡ Ok (with_slots p no_slots)
+whole_back is_open k n p h =
+    by_annotations is_open k n p.effect p.id p.principal_constraint p.action_constraint p.resource_constraint p.when_clause p.slots p.annotations h
+
+-- ---- policies and templates
+
+pub policy_reads_back : (p : PolicyView) → PolicyReadsBack p
+policy_reads_back p k n none h =
+    ap (λ (s : Slots). policy_said k n p.id (policy_json (with_slots p s))) none
+    ∙ whole_back false k n p h
+    ∙ ap (λ (s : Slots). Ok (with_slots p s)) (sym none)
+
+pub template_reads_back : (p : PolicyView) → TemplateReadsBack p
+template_reads_back p k n h = whole_back true k n p h
