@@ -3,3 +3,4 @@ pub mod Levels
 pub mod Annotations
 pub mod Scopes
 pub mod Policies
+pub mod Samples

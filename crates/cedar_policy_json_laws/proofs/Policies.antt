@@ -11,16 +11,16 @@ use Rattle.cedar_layers.specs.Policies.{PolicyView}
 use Rattle.cedar_text_printer.specs.Policies.{effect_text}
 use Rattle.cedar_policy_json_reader.specs.Expressions.{Reading, expression_said}
 use Rattle.cedar_policy_json_reader.specs.Paths.{at_key, at_index}
-use Rattle.cedar_policy_json_reader.specs.Policies.{effect_said, kind_of_said, joined, conditions_said, policy_made, policy_by, policy_said, template_said}
+use Rattle.cedar_policy_json_reader.specs.Policies.{effect_said, kind_of_said, joined, conditions_said, annotations_said, policy_made, policy_by, policy_said, template_said}
 use Rattle.cedar_policy_json_reader.specs.Refusals.{Said, under, before, both_said, made_of, and_then}
 use Rattle.cedar_policy_json_reader.specs.Scopes.{truth, scope_said}
 use Rattle.cedar_policy_json_writer.specs.Expressions.{expression_json}
-use Rattle.cedar_policy_json_writer.specs.Policies.{behind, principal_scope, action_scope, resource_scope, when_json, condition_items, conditions_json, policy_json, template_json, with_slots}
+use Rattle.cedar_policy_json_writer.specs.Policies.{behind, principal_scope, action_scope, resource_scope, principal_condition, action_condition, resource_condition, when_json, condition_items, conditions_json, annotations_json, policy_json, template_json, with_slots}
 use Rattle.cedar_policy_json_writer.specs.Scopes.{Scope, scope_of, head_json, is_truth, is_true_literal}
-use Rattle.cedar_policy_json_laws.specs.Policies.{IsReadableHead, IsReadablePolicy, PolicyReadsBack, TemplateReadsBack}
+use Rattle.cedar_policy_json_laws.specs.Policies.{IsReadableHead, linked_constraint, with_entities, IsReadablePolicy, LinkedPolicyReadsBack, PolicyReadsBack, TemplateReadsBack}
 use Rattle.cedar_policy_json_laws.proofs.Annotations.{annotations_back}
 use Rattle.cedar_policy_json_laws.proofs.Levels.{expression_reads_back}
-use Rattle.cedar_policy_json_laws.proofs.Scopes.{scope_back}
+use Rattle.cedar_policy_json_laws.proofs.Scopes.{scope_back, constraint_stays}
 
 effect_back : (e : Effect) → effect_said (string (effect_text e)) ≡ Ok e
 effect_back permit = refl
@@ -40,15 +40,15 @@ truth_is (literal l) e = true_is l e
 truth_is _ e = never e
 
 -- behind one `when`
-when_back : (says : Reading) (t : Term) → says (expression_json no_slots t) ≡ Ok t → conditions_said says (array (items_of (when_json no_slots t ∷ []))) ≡ Ok t
-when_back says t h =
-    ap (λ (s : Said Term). made_of joined (before (under (at_index 0) (and_then (λ q. kind_of_said q.0 q.1) (both_said (Ok (codes "when")) (under (at_key (codes "body")) s)))) (Ok []))) h
+when_back : (says : Reading) (s : Slots) (t : Term) → says (expression_json s t) ≡ Ok t → conditions_said says (array (items_of (when_json s t ∷ []))) ≡ Ok t
+when_back says s t h =
+    ap (λ (r : Said Term). made_of joined (before (under (at_index 0) (and_then (λ q. kind_of_said q.0 q.1) (both_said (Ok (codes "when")) (under (at_key (codes "body")) r)))) (Ok []))) h
 
 -- behind one, or behind none where it is `true`
-condition_by : (says : Reading) (t : Term) (b : Bool) → is_truth t ≡ b → (is_truth t ≡ false → says (expression_json no_slots t) ≡ Ok t)
-    → conditions_said says (array (items_of (cond b [] (when_json no_slots t ∷ [])))) ≡ Ok t
-condition_by says t true e h = ap Ok (sym (truth_is t e))
-condition_by says t false e h = when_back says t (h e)
+condition_by : (says : Reading) (s : Slots) (t : Term) (b : Bool) → is_truth t ≡ b → (is_truth t ≡ false → says (expression_json s t) ≡ Ok t)
+    → conditions_said says (array (items_of (cond b [] (when_json s t ∷ [])))) ≡ Ok t
+condition_by says s t true e h = ap Ok (sym (truth_is t e))
+condition_by says s t false e h = when_back says s t (h e)
 
 -- ---- the scope
 
@@ -65,40 +65,57 @@ behind_is is_open (Some x) other h = refl
 no_condition : (b : Bool) (s : Slots) (t : Term) → b ≡ true → condition_items b s t ≡ []
 no_condition b s t h = ap (λ (c : Bool). condition_items c s t) h
 
--- ---- all of it, where no slot is linked
+-- ---- all of it
 
 module _ (is_open : Bool) (k : Knowledge) (n : ℕ) (p : PolicyView) (h : IsReadablePolicy is_open k n p) where
-  action_is : action_scope (with_slots p no_slots) ≡ scope_of no_slots action p.action_constraint
-  action_is = behind_is is_open (principal_scope (with_slots p no_slots)) (scope_of no_slots action p.action_constraint) h.principal_stands
+  action_is : action_scope p ≡ scope_of p.slots action p.action_constraint
+  action_is = behind_is is_open (principal_scope p) (scope_of p.slots action p.action_constraint) h.principal_stands
 
-  action_found : IsReadableHead is_open (action_scope (with_slots p no_slots))
+  action_found : IsReadableHead is_open (action_scope p)
   action_found = subst (IsReadableHead is_open) (sym action_is) h.action_stands
 
-  resource_is : resource_scope (with_slots p no_slots) ≡ scope_of no_slots resource p.resource_constraint
-  resource_is = behind_is is_open (action_scope (with_slots p no_slots)) (scope_of no_slots resource p.resource_constraint) action_found
+  resource_is : resource_scope p ≡ scope_of p.slots resource p.resource_constraint
+  resource_is = behind_is is_open (action_scope p) (scope_of p.slots resource p.resource_constraint) action_found
 
-  resource_found : IsReadableHead is_open (resource_scope (with_slots p no_slots))
+  resource_found : IsReadableHead is_open (resource_scope p)
   resource_found = subst (IsReadableHead is_open) (sym resource_is) h.resource_stands
 
-  action_back : scope_said is_open action (head_json (action_scope (with_slots p no_slots))) ≡ Ok p.action_constraint
-  action_back = ap (λ (o : Option Scope). scope_said is_open action (head_json o)) action_is ∙ scope_back is_open action p.action_constraint h.action_stands
+  principal_back : scope_said is_open principal (head_json (principal_scope p)) ≡ Ok (linked_constraint p.slots p.principal_constraint)
+  principal_back = scope_back is_open p.slots principal p.principal_constraint h.principal_stands
 
-  resource_back : scope_said is_open resource (head_json (resource_scope (with_slots p no_slots))) ≡ Ok p.resource_constraint
-  resource_back = ap (λ (o : Option Scope). scope_said is_open resource (head_json o)) resource_is ∙ scope_back is_open resource p.resource_constraint h.resource_stands
+  action_back : scope_said is_open action (head_json (action_scope p)) ≡ Ok (linked_constraint p.slots p.action_constraint)
+  action_back =
+      ap (λ (o : Option Scope). scope_said is_open action (head_json o)) action_is
+      ∙ scope_back is_open p.slots action p.action_constraint h.action_stands
+
+  resource_back : scope_said is_open resource (head_json (resource_scope p)) ≡ Ok (linked_constraint p.slots p.resource_constraint)
+  resource_back =
+      ap (λ (o : Option Scope). scope_said is_open resource (head_json o)) resource_is
+      ∙ scope_back is_open p.slots resource p.resource_constraint h.resource_stands
+
+  no_principal_condition : principal_condition p ≡ []
+  no_principal_condition = no_condition (is_some (principal_scope p)) p.slots p.principal_constraint (stands is_open (principal_scope p) h.principal_stands)
+
+  no_action_condition : action_condition p ≡ []
+  no_action_condition = no_condition (is_some (action_scope p)) p.slots p.action_constraint (stands is_open (action_scope p) action_found)
+
+  no_resource_condition : resource_condition p ≡ []
+  no_resource_condition = no_condition (is_some (resource_scope p)) p.slots p.resource_constraint (stands is_open (resource_scope p) resource_found)
 
   -- the policy's own condition is the only one
-  conditions_are : conditions_json (with_slots p no_slots) ≡ array (items_of (cond (is_truth p.when_clause) [] (when_json no_slots p.when_clause ∷ [])))
+  conditions_are : conditions_json p ≡ array (items_of (condition_items false p.slots p.when_clause))
   conditions_are =
-      λ i. array (items_of (((no_condition (is_some (principal_scope (with_slots p no_slots))) no_slots p.principal_constraint (stands is_open (principal_scope (with_slots p no_slots)) h.principal_stands) i
-      ++ no_condition (is_some (action_scope (with_slots p no_slots))) no_slots p.action_constraint (stands is_open (action_scope (with_slots p no_slots)) action_found) i)
-      ++ no_condition (is_some (resource_scope (with_slots p no_slots))) no_slots p.resource_constraint (stands is_open (resource_scope (with_slots p no_slots)) resource_found) i)
-      ++ condition_items false no_slots p.when_clause))
+      λ i. array (items_of (((no_principal_condition i ++ no_action_condition i) ++ no_resource_condition i) ++ condition_items false p.slots p.when_clause))
 
-  conditions_back : conditions_said (expression_said k n) (conditions_json (with_slots p no_slots)) ≡ Ok p.when_clause
+  conditions_back : conditions_said (expression_said k n) (conditions_json p) ≡ Ok p.when_clause
   conditions_back =
       ap (λ (j : Json). conditions_said (expression_said k n) j) conditions_are
-      ∙ condition_by (expression_said k n) p.when_clause (is_truth p.when_clause) refl (λ e. expression_reads_back p.when_clause k n (h.has_condition e))
+      ∙ condition_by (expression_said k n) p.slots p.when_clause (is_truth p.when_clause) refl (λ e. expression_reads_back p.when_clause p.slots k n (h.has_condition e))
 
+  annotations_left : annotations_said (annotations_json p.annotations) ≡ Ok p.annotations
+  annotations_left = annotations_back p.annotations h.under_words h.in_order
+
+-- its annotations are left out where there are none
 module _ (is_open : Bool) (k : Knowledge) (n : ℕ) (e : Effect) (id : Text) (x y z t : Term) (s : Slots) where
   abbrev annotated : List (Text × Text) → PolicyView
   annotated ps = record {
@@ -113,31 +130,44 @@ module _ (is_open : Bool) (k : Knowledge) (n : ℕ) (e : Effect) (id : Text) (x 
   }
 
   by_annotations : (ps : List (Text × Text)) → IsReadablePolicy is_open k n (annotated ps)
-      → policy_by is_open (expression_said k n) id (policy_json (with_slots (annotated ps) no_slots)) ≡ Ok (with_slots (annotated ps) no_slots)
+      → policy_by is_open (expression_said k n) id (policy_json (annotated ps)) ≡ Ok (with_entities (annotated ps))
   by_annotations [] h =
       λ i. made_of (policy_made id) (both_said (under (at_key (codes "effect")) (effect_back e i))
-      (both_said (both_said (both_said (under (at_key (codes "principal")) (scope_back is_open principal x h.principal_stands i))
+      (both_said (both_said (both_said (under (at_key (codes "principal")) (principal_back is_open k n (annotated []) h i))
       (both_said (under (at_key (codes "action")) (action_back is_open k n (annotated []) h i)) (under (at_key (codes "resource")) (resource_back is_open k n (annotated []) h i))))
       (under (at_key (codes "conditions")) (conditions_back is_open k n (annotated []) h i))) (Ok [])))
   by_annotations (a ∷ more) h =
       λ i. made_of (policy_made id) (both_said (under (at_key (codes "effect")) (effect_back e i))
-      (both_said (both_said (both_said (under (at_key (codes "principal")) (scope_back is_open principal x h.principal_stands i))
+      (both_said (both_said (both_said (under (at_key (codes "principal")) (principal_back is_open k n (annotated (a ∷ more)) h i))
       (both_said (under (at_key (codes "action")) (action_back is_open k n (annotated (a ∷ more)) h i)) (under (at_key (codes "resource")) (resource_back is_open k n (annotated (a ∷ more)) h i))))
       (under (at_key (codes "conditions")) (conditions_back is_open k n (annotated (a ∷ more)) h i)))
-      (under (at_key (codes "annotations")) (annotations_back (a ∷ more) h.under_words h.in_order i))))
+      (under (at_key (codes "annotations")) (annotations_left is_open k n (annotated (a ∷ more)) h i))))
 
 whole_back : (is_open : Bool) (k : Knowledge) (n : ℕ) (p : PolicyView) → IsReadablePolicy is_open k n p
-    → policy_by is_open (expression_said k n) p.id (policy_json (with_slots p no_slots)) ≡ Ok (with_slots p no_slots)
+    → policy_by is_open (expression_said k n) p.id (policy_json p) ≡ Ok (with_entities p)
 whole_back is_open k n p h =
     by_annotations is_open k n p.effect p.id p.principal_constraint p.action_constraint p.resource_constraint p.when_clause p.slots p.annotations h
 
+-- where no slot is linked, all is as it was
+policy_stays : (p : PolicyView) → with_entities (with_slots p no_slots) ≡ with_slots p no_slots
+policy_stays p = λ i. record p {
+  principal_constraint = constraint_stays p.principal_constraint i;
+  action_constraint = constraint_stays p.action_constraint i;
+  resource_constraint = constraint_stays p.resource_constraint i;
+  slots = no_slots;
+}
+
 -- ---- policies and templates
+
+pub linked_policy_reads_back : (p : PolicyView) → LinkedPolicyReadsBack p
+linked_policy_reads_back p k n h = whole_back false k n p h
 
 pub policy_reads_back : (p : PolicyView) → PolicyReadsBack p
 policy_reads_back p k n none h =
-    ap (λ (s : Slots). policy_said k n p.id (policy_json (with_slots p s))) none
-    ∙ whole_back false k n p h
+    whole_back false k n p h
+    ∙ ap (λ (s : Slots). Ok (with_entities (with_slots p s))) none
+    ∙ ap (λ (q : PolicyView). Ok q) (policy_stays p)
     ∙ ap (λ (s : Slots). Ok (with_slots p s)) (sym none)
 
 pub template_reads_back : (p : PolicyView) → TemplateReadsBack p
-template_reads_back p k n h = whole_back true k n p h
+template_reads_back p k n h = whole_back true k n (with_slots p no_slots) h ∙ ap (λ (q : PolicyView). Ok q) (policy_stays p)

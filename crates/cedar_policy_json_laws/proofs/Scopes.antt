@@ -6,6 +6,7 @@ use Rattle.json.specs.Value.{items_of}
 use Rattle.cedar_model.specs.Terms.{Text, EntityName, Literal, bool_literal, long_literal, text_literal, entity_literal, Variable, principal, action, resource, context, Slot, principal_slot, resource_slot, BinaryOperator, eq_operator, in_operator}
 use Rattle.cedar_model.specs.Terms.{Term, literal, variable, slot, both, binary, is_of_type, set_of, Terms, no_terms, one_term, terms_of}
 use Rattle.cedar_model.specs.Agreement.{no_slots}
+use Rattle.cedar_model.specs.World.{Slots}
 use Rattle.cedar_names.specs.EqualityLaws.{variable_eq-decides}
 use Rattle.cedar_json_writer.specs.Texts.{object_of}
 use Rattle.cedar_json_writer.specs.Written.{written_uid}
@@ -14,9 +15,9 @@ use Rattle.cedar_policy_json_reader.specs.Paths.{at_key, at_index}
 use Rattle.cedar_policy_json_reader.specs.Refusals.{Said, under, before, both_said, made_of}
 use Rattle.cedar_policy_json_reader.specs.Scopes.{entity_term, entity_said, entities_from, slot_at, target_said, place_said, set_of_terms, inside_said, typed, typed_inside, constraint_said, scope_said}
 use Rattle.cedar_policy_json_reader.specs.Words.{is_name}
-use Rattle.cedar_policy_json_writer.specs.Scopes.{Place, entity_place, slot_place, Scope, any, equal_to, inside, inside_any, of_type, of_type_inside, entity_in, are_entities, entities_in, literal_place, own_slot, place_of, any_scope, listed_scope, inside_scope, operand_scope, compared_scope, tested_type, type_asked, place_asked, place_inside, typed_scope, scope_of}
+use Rattle.cedar_policy_json_writer.specs.Scopes.{Place, entity_place, slot_place, Scope, any, equal_to, inside, inside_any, of_type, of_type_inside, entity_in, are_entities, entities_in, literal_place, own_slot, linked_place, place_of, any_scope, listed_scope, inside_scope, operand_scope, compared_scope, tested_type, type_asked, place_asked, place_inside, typed_scope, scope_of}
 use Rattle.cedar_policy_json_writer.specs.Scopes.{place_json, compared_json, type_members, scope_json, head_json, is_variable, takes_set, takes_type, is_in}
-use Rattle.cedar_policy_json_laws.specs.Policies.{IsReadablePlace, AreReadableEntities, IsReadableHead, IsReadableConstraint, ScopeReadsBack}
+use Rattle.cedar_policy_json_laws.specs.Policies.{IsReadablePlace, AreReadableEntities, IsReadableHead, IsReadableConstraint, linked_slot, linked_operand, linked_constraint, LinkedScopeReadsBack, ScopeReadsBack}
 use Rattle.cedar_policy_json_laws.proofs.Leaves.{name_back}
 
 -- ---- tests that hold
@@ -53,11 +54,14 @@ abbrev PlaceSaysIf : Bool → Variable → Term → Option Place → Type 0
 PlaceSaysIf is_open v u None = ⊤
 PlaceSaysIf is_open v u (Some p) = IsReadablePlace is_open p → PlaceSays is_open v u p
 
-literal_says : (is_open : Bool) (v : Variable) (l : Literal) → PlaceSaysIf is_open v (literal l) (literal_place l)
-literal_says is_open v (entity_literal e) = λ h. record {
+entity_says : (is_open : Bool) (v : Variable) (e : EntityName) → is_name e.type_name ≡ true → PlaceSays is_open v (entity_term e) (entity_place e)
+entity_says is_open v e h = record {
   beside = λ k. ap (under (at_key (codes "entity"))) (entity_back e h);
   alone = ap (under (at_key (codes "entity"))) (entity_back e h);
 }
+
+literal_says : (is_open : Bool) (v : Variable) (l : Literal) → PlaceSaysIf is_open v (literal l) (literal_place l)
+literal_says is_open v (entity_literal e) = λ h. entity_says is_open v e h
 literal_says is_open v _ = tt
 
 slot_says : (is_open : Bool) (v : Variable) (x : Slot) → PlaceSaysIf is_open v (slot x) (own_slot v x)
@@ -74,10 +78,14 @@ slot_says is_open resource resource_slot = λ h. record {
 }
 slot_says is_open context x = tt
 
-place_says : (is_open : Bool) (v : Variable) (u : Term) → PlaceSaysIf is_open v u (place_of no_slots v u)
-place_says is_open v (literal l) = literal_says is_open v l
-place_says is_open v (slot x) = slot_says is_open v x
-place_says is_open v _ = tt
+linked_says : (is_open : Bool) (v : Variable) (x : Slot) (o : Option EntityName) → PlaceSaysIf is_open v (linked_slot x o) (linked_place v x o)
+linked_says is_open v x None = slot_says is_open v x
+linked_says is_open v x (Some e) = λ h. entity_says is_open v e h
+
+place_says : (is_open : Bool) (s : Slots) (v : Variable) (u : Term) → PlaceSaysIf is_open v (linked_operand s u) (place_of s v u)
+place_says is_open s v (literal l) = literal_says is_open v l
+place_says is_open s v (slot x) = linked_says is_open v x (s x)
+place_says is_open s v _ = tt
 
 -- ---- `==` and `in`
 
@@ -152,26 +160,26 @@ set_back is_open context ts h = absurd h
 
 -- ---- comparisons
 
-in_back : (is_open : Bool) (v : Variable) (u : Term) → IsReadableHead is_open (inside_scope no_slots v u)
-    → scope_said is_open v (head_json (inside_scope no_slots v u)) ≡ Ok (binary in_operator (variable v) u)
-in_back is_open v (set_of ts) h = set_back is_open v ts h
-in_back is_open v (literal l) h = inside_back is_open v (literal l) (literal_place l) (literal_says is_open v l) h
-in_back is_open v (slot x) h = inside_back is_open v (slot x) (own_slot v x) (slot_says is_open v x) h
-in_back is_open v _ h = absurd h
+in_back : (is_open : Bool) (s : Slots) (v : Variable) (u : Term) → IsReadableHead is_open (inside_scope s v u)
+    → scope_said is_open v (head_json (inside_scope s v u)) ≡ Ok (binary in_operator (variable v) (linked_operand s u))
+in_back is_open s v (set_of ts) h = set_back is_open v ts h
+in_back is_open s v (literal l) h = inside_back is_open v (literal l) (literal_place l) (literal_says is_open v l) h
+in_back is_open s v (slot x) h = inside_back is_open v (linked_slot x (s x)) (linked_place v x (s x)) (linked_says is_open v x (s x)) h
+in_back is_open s v _ h = absurd h
 
-operand_back : (is_open : Bool) (v : Variable) (op : BinaryOperator) (u : Term) → IsReadableHead is_open (operand_scope no_slots v op u)
-    → scope_said is_open v (head_json (operand_scope no_slots v op u)) ≡ Ok (binary op (variable v) u)
-operand_back is_open v eq_operator u h = equal_back is_open v u (place_of no_slots v u) (place_says is_open v u) h
-operand_back is_open v in_operator u h = in_back is_open v u h
-operand_back is_open v _ u h = absurd h
+operand_back : (is_open : Bool) (s : Slots) (v : Variable) (op : BinaryOperator) (u : Term) → IsReadableHead is_open (operand_scope s v op u)
+    → scope_said is_open v (head_json (operand_scope s v op u)) ≡ Ok (binary op (variable v) (linked_operand s u))
+operand_back is_open s v eq_operator u h = equal_back is_open v (linked_operand s u) (place_of s v u) (place_says is_open s v u) h
+operand_back is_open s v in_operator u h = in_back is_open s v u h
+operand_back is_open s v _ u h = absurd h
 
-compared_back : (is_open : Bool) (v : Variable) (op : BinaryOperator) (t u : Term) → IsReadableHead is_open (compared_scope no_slots v op t u)
-    → scope_said is_open v (head_json (compared_scope no_slots v op t u)) ≡ Ok (binary op t u)
-compared_back is_open v op t u h =
-    let is : (is_variable v t ≡ true) × IsReadableHead is_open (operand_scope no_slots v op u) = tested_head is_open (is_variable v t) (operand_scope no_slots v op u) h in
-    ap (λ (b : Bool). scope_said is_open v (head_json (cond b (operand_scope no_slots v op u) None))) is.0
-    ∙ operand_back is_open v op u is.1
-    ∙ ap (λ (x : Term). Ok (binary op x u)) (sym (variable_is v t is.0))
+compared_back : (is_open : Bool) (s : Slots) (v : Variable) (op : BinaryOperator) (t u : Term) → IsReadableHead is_open (compared_scope s v op t u)
+    → scope_said is_open v (head_json (compared_scope s v op t u)) ≡ Ok (binary op t (linked_operand s u))
+compared_back is_open s v op t u h =
+    let is : (is_variable v t ≡ true) × IsReadableHead is_open (operand_scope s v op u) = tested_head is_open (is_variable v t) (operand_scope s v op u) h in
+    ap (λ (b : Bool). scope_said is_open v (head_json (cond b (operand_scope s v op u) None))) is.0
+    ∙ operand_back is_open s v op u is.1
+    ∙ ap (λ (x : Term). Ok (binary op x (linked_operand s u))) (sym (variable_is v t is.0))
 
 -- ---- tests of the type
 
@@ -216,30 +224,30 @@ tested_typed is_open true true n o h = (refl, refl, h)
 tested_typed is_open true false n o h = absurd h
 tested_typed is_open false c n o h = absurd h
 
-is_in_back : (is_open : Bool) (v : Variable) (t : Term) (n : Text) (op : BinaryOperator) (a u : Term) → IsReadableHead is_open (typed_scope (tested_type v t n) (place_asked no_slots v op a u))
-    → scope_said is_open v (head_json (typed_scope (tested_type v t n) (place_asked no_slots v op a u))) ≡ Ok (both (is_of_type t n) (binary op a u))
-is_in_back is_open v t n op a u h =
-    let is : ((takes_type v && is_variable v t) ≡ true) × ((is_in op && is_variable v a) ≡ true) × IsReadableHead is_open (typed_scope (Some n) (place_of no_slots v u)) = tested_typed is_open (takes_type v && is_variable v t) (is_in op && is_variable v a) n (place_of no_slots v u) h in
+is_in_back : (is_open : Bool) (s : Slots) (v : Variable) (t : Term) (n : Text) (op : BinaryOperator) (a u : Term) → IsReadableHead is_open (typed_scope (tested_type v t n) (place_asked s v op a u))
+    → scope_said is_open v (head_json (typed_scope (tested_type v t n) (place_asked s v op a u))) ≡ Ok (both (is_of_type t n) (binary op a (linked_operand s u)))
+is_in_back is_open s v t n op a u h =
+    let is : ((takes_type v && is_variable v t) ≡ true) × ((is_in op && is_variable v a) ≡ true) × IsReadableHead is_open (typed_scope (Some n) (place_of s v u)) = tested_typed is_open (takes_type v && is_variable v t) (is_in op && is_variable v a) n (place_of s v u) h in
     let left : (takes_type v ≡ true) × (is_variable v t ≡ true) = both_hold (takes_type v) (is_variable v t) is.0 in
     let right : (is_in op ≡ true) × (is_variable v a ≡ true) = both_hold (is_in op) (is_variable v a) is.1 in
-    (λ i. scope_said is_open v (head_json (typed_scope (cond (is.0 i) (Some n) None) (cond (is.1 i) (place_of no_slots v u) None))))
-    ∙ typed_back is_open v n u (place_of no_slots v u) (place_says is_open v u) left.0 is.2
-    ∙ (λ i. Ok (both (is_of_type (sym (variable_is v t left.1) i) n) (binary (sym (operator_is op right.0) i) (sym (variable_is v a right.1) i) u)))
+    (λ i. scope_said is_open v (head_json (typed_scope (cond (is.0 i) (Some n) None) (cond (is.1 i) (place_of s v u) None))))
+    ∙ typed_back is_open v n (linked_operand s u) (place_of s v u) (place_says is_open s v u) left.0 is.2
+    ∙ (λ i. Ok (both (is_of_type (sym (variable_is v t left.1) i) n) (binary (sym (operator_is op right.0) i) (sym (variable_is v a right.1) i) (linked_operand s u))))
 
 -- without a place there is no such scope
 no_place : (is_open : Bool) (o : Option Text) → IsReadableHead is_open (typed_scope o None) → ⊥
 no_place is_open None h = h
 no_place is_open (Some n) h = h
 
-place_back : (is_open : Bool) (v : Variable) (t : Term) (n : Text) (u : Term) → IsReadableHead is_open (typed_scope (tested_type v t n) (place_inside no_slots v u))
-    → scope_said is_open v (head_json (typed_scope (tested_type v t n) (place_inside no_slots v u))) ≡ Ok (both (is_of_type t n) u)
-place_back is_open v t n (binary op a b) h = is_in_back is_open v t n op a b h
-place_back is_open v t n _ h = absurd (no_place is_open (tested_type v t n) h)
+place_back : (is_open : Bool) (s : Slots) (v : Variable) (t : Term) (n : Text) (u : Term) → IsReadableHead is_open (typed_scope (tested_type v t n) (place_inside s v u))
+    → scope_said is_open v (head_json (typed_scope (tested_type v t n) (place_inside s v u))) ≡ Ok (both (is_of_type t n) (linked_constraint s u))
+place_back is_open s v t n (binary op a b) h = is_in_back is_open s v t n op a b h
+place_back is_open s v t n _ h = absurd (no_place is_open (tested_type v t n) h)
 
-both_back : (is_open : Bool) (v : Variable) (t u : Term) → IsReadableHead is_open (typed_scope (type_asked v t) (place_inside no_slots v u))
-    → scope_said is_open v (head_json (typed_scope (type_asked v t) (place_inside no_slots v u))) ≡ Ok (both t u)
-both_back is_open v (is_of_type t n) u h = place_back is_open v t n u h
-both_back is_open v _ u h = absurd h
+both_back : (is_open : Bool) (s : Slots) (v : Variable) (t u : Term) → IsReadableHead is_open (typed_scope (type_asked v t) (place_inside s v u))
+    → scope_said is_open v (head_json (typed_scope (type_asked v t) (place_inside s v u))) ≡ Ok (both t (linked_constraint s u))
+both_back is_open s v (is_of_type t n) u h = place_back is_open s v t n u h
+both_back is_open s v _ u h = absurd h
 
 -- ---- all of them
 
@@ -250,12 +258,26 @@ any_back is_open v (long_literal n) h = absurd h
 any_back is_open v (text_literal t) h = absurd h
 any_back is_open v (entity_literal e) h = absurd h
 
-pub scope_back : (is_open : Bool) (v : Variable) (t : Term) → IsReadableConstraint is_open v t → scope_said is_open v (head_json (scope_of no_slots v t)) ≡ Ok t
-scope_back is_open v (literal l) h = any_back is_open v l h
-scope_back is_open v (both t u) h = both_back is_open v t u h
-scope_back is_open v (binary op t u) h = compared_back is_open v op t u h
-scope_back is_open v (is_of_type t n) h = is_back is_open v t n h
-scope_back is_open v _ h = absurd h
+pub scope_back : (is_open : Bool) (s : Slots) (v : Variable) (t : Term) → IsReadableConstraint is_open s v t → scope_said is_open v (head_json (scope_of s v t)) ≡ Ok (linked_constraint s t)
+scope_back is_open s v (literal l) h = any_back is_open v l h
+scope_back is_open s v (both t u) h = both_back is_open s v t u h
+scope_back is_open s v (binary op t u) h = compared_back is_open s v op t u h
+scope_back is_open s v (is_of_type t n) h = is_back is_open v t n h
+scope_back is_open s v _ h = absurd h
+
+-- ---- where no slot is linked
+
+operand_stays : (t : Term) → linked_operand no_slots t ≡ t
+operand_stays (slot x) = refl
+operand_stays _ = refl
+
+pub constraint_stays : (t : Term) → linked_constraint no_slots t ≡ t
+constraint_stays (binary op t u) = ap (binary op t) (operand_stays u)
+constraint_stays (both t u) = ap (both t) (constraint_stays u)
+constraint_stays _ = refl
+
+pub linked_scope_reads_back : (v : Variable) (t : Term) → LinkedScopeReadsBack v t
+linked_scope_reads_back v t is_open s h = scope_back is_open s v t h
 
 pub scope_reads_back : (v : Variable) (t : Term) → ScopeReadsBack v t
-scope_reads_back v t is_open h = scope_back is_open v t h
+scope_reads_back v t is_open h = scope_back is_open no_slots v t h ∙ ap (λ (u : Term). Ok u) (constraint_stays t)

@@ -3,7 +3,9 @@ ghost use Rattle.cedar_names.specs.Leaves.{variable_view};
 ghost use Rattle.cedar_expressions.specs.View.{view};
 ghost use Rattle.cedar_layers.specs.Policies.{annotations_view, policy_view};
 ghost use Rattle.cedar_policy_json_laws.specs.Back.{ExpressionReadsBack, AnnotationsReadBack};
-ghost use Rattle.cedar_policy_json_laws.specs.Policies.{ScopeReadsBack, PolicyReadsBack, TemplateReadsBack};
+ghost use Rattle.cedar_policy_json_laws.specs.Policies.{ScopeReadsBack, LinkedScopeReadsBack, PolicyReadsBack};
+ghost use Rattle.cedar_policy_json_laws.specs.Policies.{LinkedPolicyReadsBack, TemplateReadsBack};
+ghost use Rattle.cedar_policy_json_laws.specs.Samples.{TemplateIsReadable, PolicyIsReadable};
 
 use cedar_expressions::Expr;
 use cedar_layers::policies::{Annotations, Policy};
@@ -12,7 +14,7 @@ use cedar_names::Var;
 /// What is written of an expression reads back as itself, within so many levels as it has, where it can be read: each
 /// function that it calls is known, takes so many arguments, and has no operator's name; types have the names of types;
 /// longs are of 64 bits, characters of patterns are characters, and the keys of records are in order; and no slot is in
-/// it.
+/// it, whatever slots are linked.
 pub fn expressions_read_back(expr: &Expr)
     ensures { ExpressionReadsBack (view expr.now) }
 {}
@@ -25,20 +27,29 @@ pub fn annotations_read_back(annotations: &Annotations)
 /// What is written of a constraint on this variable that stands in a scope reads back as itself, where types have the
 /// names of types: `true`, and for the variable `v` and an entity `E` `v == E` and `v in E`, beside the action `v in
 /// [E, ..]`, and beside the principal and the resource `v is T` and `v is T && v in E`. In a template the variable's own
-/// slot may stand in the place of `E`.
+/// slot may stand in the place of `E`; where a slot is linked to an entity, it reads back as that entity.
 pub fn scopes_read_back(var: Var, constraint: &Expr)
-    ensures { ScopeReadsBack (variable_view var) (view constraint.now) }
+    ensures itself { ScopeReadsBack (variable_view var) (view constraint.now) }
+    ensures linked { LinkedScopeReadsBack (variable_view var) (view constraint.now) }
 {}
 
 /// What is written of a policy of which no slot is linked reads back as the policy, where it is read under its id: the
 /// same effect, annotations, constraints and condition, where the constraints stand in the scope and each part reads
-/// back. A condition that is `true` is not written, and reads back too.
+/// back. A condition that is `true` is not written, and reads back too. A policy that is linked reads back as the one
+/// with the entities in the place of the slots.
 pub fn policies_read_back(policy: &Policy)
-    ensures { PolicyReadsBack (policy_view policy.now) }
+    ensures itself { PolicyReadsBack (policy_view policy.now) }
+    ensures linked { LinkedPolicyReadsBack (policy_view policy.now) }
 {}
 
 /// What is written of a template reads back as the template, where it is read under its id and each part reads back,
 /// whatever entities the policy has for its slots.
 pub fn templates_read_back(template: &Policy)
     ensures { TemplateReadsBack (policy_view template.now) }
+{}
+
+/// A template, and a policy that is linked of it, of which each part reads back: the premises can be met.
+pub fn sample_policies_are_readable()
+    ensures template { TemplateIsReadable }
+    ensures policy { PolicyIsReadable }
 {}
