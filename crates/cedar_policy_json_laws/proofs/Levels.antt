@@ -1,29 +1,24 @@
 -- Expressions read back, level by level.
-use Rattle.std.proofs.Common.{◌≡◌, ℕ, zero, suc, ◌+◌, Bool, true, false, eq-eqb, List, [], ◌∷◌, map, Option, Some, None, Result, Ok, Err, refl, sym, ap, ◌∙◌, subst, codes}
+use Rattle.std.proofs.Common.{◌≡◌, ℕ, zero, suc, ◌+◌, Bool, false, eq-eqb, List, [], ◌∷◌, Option, Some, None, Ok, refl, ap, ◌∙◌, codes}
 use Rattle.std.specs.Prelude.{if◌then◌else◌, ◌==◌, bytes_eq}
-use Rattle.json.specs.Json.{Json, string, array, object, Items, no_items, item, Members, no_members, member}
-use Rattle.json.specs.Find.{as_array}
-use Rattle.json.specs.Value.{items_of}
-use Rattle.cedar_model.specs.Terms.{Text, EntityName, Literal, bool_literal, long_literal, text_literal, entity_literal, Variable, principal, action, resource, context, ValueType, bool_type, long_type, string_type, set_type, record_type, entity_type, extension_type}
+use Rattle.json.specs.Json.{Json, string, array}
+use Rattle.cedar_model.specs.Terms.{Text, Literal, bool_literal, long_literal, text_literal, entity_literal, Variable, principal, action, resource, context, ValueType, bool_type, long_type, string_type, set_type, record_type, entity_type, extension_type}
 use Rattle.cedar_model.specs.Terms.{UnaryOperator, not_operator, neg_operator, is_empty_operator, BinaryOperator, eq_operator, less_operator, less_eq_operator, add_operator, sub_operator, mul_operator, in_operator, contains_operator, contains_all_operator, contains_any_operator, get_tag_operator, has_tag_operator}
-use Rattle.cedar_model.specs.Terms.{PatternPart, Term, literal, variable, slot, unknown, if_then_else, both, either, unary, binary, call, get_attribute, has_attribute, extended_has, like, is_of_type, set_of, record_of, Terms, no_terms, one_term, Fields, no_fields, one_field, terms_of}
+use Rattle.cedar_model.specs.Terms.{Term, literal, variable, slot, unknown, if_then_else, both, either, unary, binary, call, get_attribute, has_attribute, extended_has, like, is_of_type, set_of, record_of, Terms, no_terms, one_term, Fields, no_fields, one_field, terms_of}
 use Rattle.cedar_model.specs.World.{Slots}
-use Rattle.cedar_model.specs.Refusals.{first_repeated}
-use Rattle.cedar_expressions.specs.Records.{fields_in_order}
 use Rattle.cedar_functions.specs.Functions.{Knowledge, known_of}
 use Rattle.cedar_functions.specs.declared.functions.Known.{Known}
 use Rattle.cedar_functions.specs.declared.functions.Known.TheVariants as known
-use Rattle.cedar_json_writer.specs.Written.{sole_member, two_members}
+use Rattle.cedar_json_writer.specs.Written.{two_members}
 use Rattle.cedar_policy_json_reader.specs.declared.errors.RefusalReason.TheVariants as reasons
-use Rattle.cedar_policy_json_reader.specs.Expressions.{Reading, Around, level_said, expression_said, undoubled_said, by_two_part, by_unary, leaf_or_said, compound_said, collection_said, operator_said, items_said, members_said, item_count, call_said, called, called_on, called_by_name, call_by_known, set_said, record_said, unique_said, record_of_pairs, keys_of_pairs, pattern_of_said}
-use Rattle.cedar_policy_json_reader.specs.Leaves.{literal_said, variable_said, unknown_said, name_said, entity_of, long_said, kind_said, typed, one_attribute, first_and_rest, has_term}
-use Rattle.cedar_policy_json_reader.specs.Names.{TwoPart, plain, conjunction, disjunction, two_part_term, two_part_named, unary_named}
+use Rattle.cedar_policy_json_reader.specs.Expressions.{Reading, Around, level_said, expression_said, undoubled_said, by_two_part, by_unary, operator_said, items_said, members_said, item_count, call_said, called_on, call_by_known, unique_said, record_of_pairs}
+use Rattle.cedar_policy_json_reader.specs.Leaves.{name_said, entity_of, long_said, kind_said, typed, one_attribute, first_and_rest, has_term}
+use Rattle.cedar_policy_json_reader.specs.Names.{TwoPart, plain, conjunction, disjunction, two_part_term, two_part_named}
 use Rattle.cedar_policy_json_reader.specs.Paths.{at_key, at_index}
-use Rattle.cedar_policy_json_reader.specs.Refusals.{Said, refused, refused_there, under, before, both_said, made_of, and_then}
-use Rattle.cedar_policy_json_reader.specs.Words.{is_name}
+use Rattle.cedar_policy_json_reader.specs.Refusals.{Said, refused, under, before, both_said, made_of, and_then}
 use Rattle.cedar_json_reader.proofs.Longs.{long_read}
 use Rattle.cedar_policy_json_writer.specs.Expressions.{expression_json, items_json, members_json, two_operands}
-use Rattle.cedar_policy_json_writer.specs.Names.{unary_name, binary_name}
+use Rattle.cedar_policy_json_writer.specs.Names.{binary_name}
 use Rattle.cedar_policy_json_laws.specs.Back.{IsReadableLiteral, IsReadableType, IsNoOperator, MayBeCalled, count_of, pairs_of, AllAre, AllAreAt, AreInOrder, IsReadableOver, IsReadable, ExpressionReadsBack}
 use Rattle.cedar_policy_json_laws.proofs.Leaves.{name_back, texts_back, pattern_back}
 

@@ -1,8 +1,8 @@
 -- Policies and templates read back.
-use Rattle.std.proofs.Common.{◌≡◌, ℕ, Bool, true, false, true≢false, cond, ◌||◌, is_some, List, [], ◌∷◌, ◌++◌, Option, Some, None, Ok, refl, sym, ap, ◌∙◌, subst, codes}
+use Rattle.std.proofs.Common.{◌≡◌, ℕ, Bool, true, false, true≢false, cond, is_some, List, [], ◌∷◌, ◌++◌, Option, Some, None, Ok, refl, sym, ap, ◌∙◌, subst, codes}
 use Rattle.json.specs.Json.{Json, string, array}
 use Rattle.json.specs.Value.{items_of}
-use Rattle.cedar_model.specs.Terms.{Text, Literal, bool_literal, Variable, principal, action, resource, Term, literal}
+use Rattle.cedar_model.specs.Terms.{Text, Literal, bool_literal, principal, action, resource, Term, literal}
 use Rattle.cedar_model.specs.Agreement.{no_slots}
 use Rattle.cedar_model.specs.Policies.{Effect, permit, forbid}
 use Rattle.cedar_model.specs.World.{Slots}
@@ -11,11 +11,11 @@ use Rattle.cedar_layers.specs.Policies.{PolicyView}
 use Rattle.cedar_text_printer.specs.Policies.{effect_text}
 use Rattle.cedar_policy_json_reader.specs.Expressions.{Reading, expression_said}
 use Rattle.cedar_policy_json_reader.specs.Paths.{at_key, at_index}
-use Rattle.cedar_policy_json_reader.specs.Policies.{effect_said, kind_of_said, joined, conditions_said, annotations_said, policy_made, policy_by, policy_said, template_said}
+use Rattle.cedar_policy_json_reader.specs.Policies.{effect_said, kind_of_said, joined, conditions_said, annotations_said, policy_made, policy_by}
 use Rattle.cedar_policy_json_reader.specs.Refusals.{Said, under, before, both_said, made_of, and_then}
 use Rattle.cedar_policy_json_reader.specs.Scopes.{truth, scope_said}
 use Rattle.cedar_policy_json_writer.specs.Expressions.{expression_json}
-use Rattle.cedar_policy_json_writer.specs.Policies.{behind, principal_scope, action_scope, resource_scope, principal_condition, action_condition, resource_condition, when_json, condition_items, conditions_json, annotations_json, policy_json, template_json, with_slots}
+use Rattle.cedar_policy_json_writer.specs.Policies.{behind, principal_scope, action_scope, resource_scope, principal_condition, action_condition, resource_condition, when_json, condition_items, conditions_json, annotations_json, policy_json, with_slots}
 use Rattle.cedar_policy_json_writer.specs.Scopes.{Scope, scope_of, head_json, is_truth, is_true_literal}
 use Rattle.cedar_policy_json_laws.specs.Policies.{IsReadableHead, linked_constraint, with_entities, IsReadablePolicy, LinkedPolicyReadsBack, PolicyReadsBack, TemplateReadsBack}
 use Rattle.cedar_policy_json_laws.proofs.Annotations.{annotations_back}

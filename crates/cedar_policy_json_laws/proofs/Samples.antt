@@ -1,9 +1,8 @@
 -- The sample policies can be read.
-use Rattle.std.proofs.Common.{true, false, refl}
-use Rattle.cedar_model.specs.Agreement.{no_slots}
+use Rattle.std.proofs.Common.{refl}
 use Rattle.cedar_text_lexer.specs.Words.{begins_reserved}
 use Rattle.cedar_names.specs.Equality.{variable_eq}
-use Rattle.cedar_policy_json_laws.specs.Samples.{sample, sample_slots, TemplateIsReadable, PolicyIsReadable}
+use Rattle.cedar_policy_json_laws.specs.Samples.{TemplateIsReadable, PolicyIsReadable}
 
 pub template_is_readable : TemplateIsReadable
 unfolding variable_eq begins_reserved

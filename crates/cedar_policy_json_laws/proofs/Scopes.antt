@@ -8,15 +8,14 @@ use Rattle.cedar_model.specs.Terms.{Term, literal, variable, slot, both, binary,
 use Rattle.cedar_model.specs.Agreement.{no_slots}
 use Rattle.cedar_model.specs.World.{Slots}
 use Rattle.cedar_names.specs.EqualityLaws.{variable_eq-decides}
-use Rattle.cedar_json_writer.specs.Texts.{object_of}
 use Rattle.cedar_json_writer.specs.Written.{written_uid}
 use Rattle.cedar_policy_json_reader.specs.Leaves.{entity_of}
 use Rattle.cedar_policy_json_reader.specs.Paths.{at_key, at_index}
 use Rattle.cedar_policy_json_reader.specs.Refusals.{Said, under, before, both_said, made_of}
 use Rattle.cedar_policy_json_reader.specs.Scopes.{entity_term, entity_said, entities_from, slot_at, target_said, place_said, set_of_terms, inside_said, typed, typed_inside, constraint_said, scope_said}
 use Rattle.cedar_policy_json_reader.specs.Words.{is_name}
-use Rattle.cedar_policy_json_writer.specs.Scopes.{Place, entity_place, slot_place, Scope, any, equal_to, inside, inside_any, of_type, of_type_inside, entity_in, are_entities, entities_in, literal_place, own_slot, linked_place, place_of, any_scope, listed_scope, inside_scope, operand_scope, compared_scope, tested_type, type_asked, place_asked, place_inside, typed_scope, scope_of}
-use Rattle.cedar_policy_json_writer.specs.Scopes.{place_json, compared_json, type_members, scope_json, head_json, is_variable, takes_set, takes_type, is_in}
+use Rattle.cedar_policy_json_writer.specs.Scopes.{Place, entity_place, slot_place, Scope, equal_to, inside, inside_any, of_type, of_type_inside, entity_in, are_entities, entities_in, literal_place, own_slot, linked_place, place_of, any_scope, listed_scope, inside_scope, operand_scope, compared_scope, tested_type, type_asked, place_asked, place_inside, typed_scope, scope_of}
+use Rattle.cedar_policy_json_writer.specs.Scopes.{place_json, compared_json, scope_json, head_json, is_variable, takes_type, is_in}
 use Rattle.cedar_policy_json_laws.specs.Policies.{IsReadablePlace, AreReadableEntities, IsReadableHead, IsReadableConstraint, linked_slot, linked_operand, linked_constraint, LinkedScopeReadsBack, ScopeReadsBack}
 use Rattle.cedar_policy_json_laws.proofs.Leaves.{name_back}
 

@@ -1,9 +1,7 @@
 -- What is written of the scope of a policy, of a policy and of a template, and reads back as itself.
 use Rattle.std.specs.Prelude.{◌≡◌, ⊤, ℕ, Bool, true, false, List, [], ◌∷◌, Option, Some, None, Ok}
-use Rattle.cedar_model.specs.Terms.{Text, EntityName, entity_literal, Variable, principal, action, resource, Slot}
-use Rattle.cedar_model.specs.Terms.{Term, literal, variable, slot, unknown, if_then_else, both, either, unary, binary}
-use Rattle.cedar_model.specs.Terms.{call, get_attribute, has_attribute, extended_has, like, is_of_type, set_of}
-use Rattle.cedar_model.specs.Terms.{record_of}
+use Rattle.cedar_model.specs.Terms.{EntityName, entity_literal, Variable, principal, action, resource, Slot}
+use Rattle.cedar_model.specs.Terms.{Term, literal, slot, both, binary}
 use Rattle.cedar_model.specs.Agreement.{no_slots}
 use Rattle.cedar_model.specs.World.{Slots}
 use Rattle.cedar_functions.specs.Functions.{Knowledge}
