@@ -4,3 +4,4 @@ pub mod Annotations
 pub mod Scopes
 pub mod Policies
 pub mod Samples
+pub mod PolicySets

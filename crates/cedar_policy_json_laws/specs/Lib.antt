@@ -1,3 +1,4 @@
 pub mod Back
 pub mod Policies
 pub mod Samples
+pub mod PolicySets

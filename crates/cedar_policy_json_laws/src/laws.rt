@@ -1,15 +1,20 @@
 //! What is written reads back. Each function is a law, and does nothing.
+ghost use Rattle.std.specs.Prelude.{map};
 ghost use Rattle.cedar_names.specs.Leaves.{variable_view};
 ghost use Rattle.cedar_expressions.specs.View.{view};
 ghost use Rattle.cedar_layers.specs.Policies.{annotations_view, policy_view};
+ghost use Rattle.cedar_layers.specs.PolicySets.{policies_view};
+ghost use Rattle.cedar_policy_json_writer.specs.Links.{link_view};
 ghost use Rattle.cedar_policy_json_laws.specs.Back.{ExpressionReadsBack, AnnotationsReadBack};
 ghost use Rattle.cedar_policy_json_laws.specs.Policies.{ScopeReadsBack, LinkedScopeReadsBack, PolicyReadsBack};
 ghost use Rattle.cedar_policy_json_laws.specs.Policies.{LinkedPolicyReadsBack, TemplateReadsBack};
+ghost use Rattle.cedar_policy_json_laws.specs.PolicySets.{PolicySetReadsBack};
 ghost use Rattle.cedar_policy_json_laws.specs.Samples.{TemplateIsReadable, PolicyIsReadable};
 
 use cedar_expressions::Expr;
-use cedar_layers::policies::{Annotations, Policy};
+use cedar_layers::policies::{Annotations, Policy, PolicySet};
 use cedar_names::Var;
+use cedar_policy_json_writer::TemplateLink;
 
 /// What is written of an expression reads back as itself, within so many levels as it has, where it can be read: each
 /// function that it calls is known, takes so many arguments, and has no operator's name; types have the names of types;
@@ -46,6 +51,14 @@ pub fn policies_read_back(policy: &Policy)
 /// whatever entities the policy has for its slots.
 pub fn templates_read_back(template: &Policy)
     ensures { TemplateReadsBack (policy_view template.now) }
+{}
+
+/// What is written of policies, templates and links reads back as these, with the policies that the links make of the
+/// templates behind the others, where each part reads back, none of the policies and templates is linked, the links make
+/// policies of these templates, and no id comes twice.
+pub fn policy_sets_read_back(policies: &PolicySet, templates: &[Policy], links: &[TemplateLink])
+    ensures { PolicySetReadsBack (policies_view policies.now) (map policy_view templates.now)
+        (map link_view links.now) }
 {}
 
 /// A template, and a policy that is linked of it, of which each part reads back: the premises can be met.
