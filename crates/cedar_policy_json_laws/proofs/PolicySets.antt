@@ -7,7 +7,6 @@ use Rattle.std.proofs.lemmas.List.Folds.{list_any-append}
 use Rattle.json.specs.Json.{Json}
 use Rattle.json.specs.Value.{items_of}
 use Rattle.cedar_model.specs.Terms.{Text, EntityName, principal_slot, resource_slot}
-use Rattle.cedar_model.specs.Agreement.{no_slots}
 use Rattle.cedar_model.specs.Outcomes.{text_eq}
 use Rattle.cedar_model.specs.World.{Slots}
 use Rattle.cedar_model.proofs.Injections.{none_is_not_some}

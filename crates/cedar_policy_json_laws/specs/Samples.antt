@@ -1,14 +1,19 @@
--- An instance of the premises of `Policies`: a template, and a policy that is linked of it.
+-- An instance of the premises of `Policies` and `PolicySets`: a template, a policy that is linked of it, and the set of
+-- a policy, the template and the link.
 use Rattle.std.specs.Prelude.{true, false, [], ◌∷◌, Some, None, codes}
 use Rattle.cedar_model.specs.Terms.{Text, EntityName, entity_literal, principal, action, resource, context}
-use Rattle.cedar_model.specs.Terms.{principal_slot, resource_slot, eq_operator, in_operator, Term, literal, variable}
+use Rattle.cedar_model.specs.Terms.{principal_slot, eq_operator, in_operator, Term, literal, variable}
 use Rattle.cedar_model.specs.Terms.{slot, both, binary, get_attribute, is_of_type, set_of, no_terms, one_term}
 use Rattle.cedar_model.specs.Agreement.{no_slots}
 use Rattle.cedar_model.specs.Policies.{permit}
 use Rattle.cedar_model.specs.World.{Slots}
 use Rattle.cedar_functions.specs.Functions.{any}
-use Rattle.cedar_layers.specs.Policies.{PolicyView}
+use Rattle.cedar_layers.specs.Policies.{PolicyView, linked}
+use Rattle.cedar_policy_json_reader.specs.Scopes.{truth}
+use Rattle.cedar_policy_json_writer.specs.Links.{Link}
+use Rattle.cedar_template_links.specs.Linking.{slots_with}
 use Rattle.cedar_policy_json_laws.specs.Policies.{IsReadablePolicy}
+use Rattle.cedar_policy_json_laws.specs.PolicySets.{IsReadableSet}
 
 abbrev pub entity : Text → Text → EntityName
 entity n id = record { type_name = n; id = id }
@@ -47,11 +52,22 @@ sample s = record {
 
 -- `?principal` is `User::"ann"`
 abbrev pub sample_slots : Slots
-sample_slots principal_slot = Some (entity (codes "User") (codes "ann"))
-sample_slots resource_slot = None
+sample_slots = slots_with (Some (entity (codes "User") (codes "ann")), None)
+
+-- the same for each principal
+abbrev pub sample_policy : PolicyView
+sample_policy = record (sample no_slots) { id = codes "everyone"; principal_constraint = truth }
+
+abbrev pub sample_link : Link
+sample_link = record { template_id = codes "guests"; new_id = codes "ann"; values = sample_slots }
 
 abbrev pub TemplateIsReadable : Type 0
 TemplateIsReadable = IsReadablePolicy true any 2 (sample no_slots)
 
 abbrev pub PolicyIsReadable : Type 0
 PolicyIsReadable = IsReadablePolicy false any 2 (sample sample_slots)
+
+abbrev pub SetIsReadable : Type 0
+SetIsReadable =
+    IsReadableSet any 2 (sample_policy ∷ []) (sample no_slots ∷ []) (sample_link ∷ [])
+    (linked (sample no_slots) (codes "ann") sample_slots ∷ [])

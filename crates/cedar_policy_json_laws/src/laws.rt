@@ -9,7 +9,7 @@ ghost use Rattle.cedar_policy_json_laws.specs.Back.{ExpressionReadsBack, Annotat
 ghost use Rattle.cedar_policy_json_laws.specs.Policies.{ScopeReadsBack, LinkedScopeReadsBack, PolicyReadsBack};
 ghost use Rattle.cedar_policy_json_laws.specs.Policies.{LinkedPolicyReadsBack, TemplateReadsBack};
 ghost use Rattle.cedar_policy_json_laws.specs.PolicySets.{PolicySetReadsBack};
-ghost use Rattle.cedar_policy_json_laws.specs.Samples.{TemplateIsReadable, PolicyIsReadable};
+ghost use Rattle.cedar_policy_json_laws.specs.Samples.{TemplateIsReadable, PolicyIsReadable, SetIsReadable};
 
 use cedar_expressions::Expr;
 use cedar_layers::policies::{Annotations, Policy, PolicySet};
@@ -31,8 +31,8 @@ pub fn annotations_read_back(annotations: &Annotations)
 
 /// What is written of a constraint on this variable that stands in a scope reads back as itself, where types have the
 /// names of types: `true`, and for the variable `v` and an entity `E` `v == E` and `v in E`, beside the action `v in
-/// [E, ..]`, and beside the principal and the resource `v is T` and `v is T && v in E`. In a template the variable's own
-/// slot may stand in the place of `E`; where a slot is linked to an entity, it reads back as that entity.
+/// [E, ..]`, and beside the principal and the resource `v is T` and `v is T && v in E`. In a template the variable's
+/// own slot may stand in the place of `E`; where a slot is linked to an entity, it reads back as that entity.
 pub fn scopes_read_back(var: Var, constraint: &Expr)
     ensures itself { ScopeReadsBack (variable_view var) (view constraint.now) }
     ensures linked { LinkedScopeReadsBack (variable_view var) (view constraint.now) }
@@ -54,15 +54,17 @@ pub fn templates_read_back(template: &Policy)
 {}
 
 /// What is written of policies, templates and links reads back as these, with the policies that the links make of the
-/// templates behind the others, where each part reads back, none of the policies and templates is linked, the links make
-/// policies of these templates, and no id comes twice.
+/// templates behind the others, where each part reads back, none of the policies and templates is linked, the links
+/// make policies of these templates, and no id comes twice.
 pub fn policy_sets_read_back(policies: &PolicySet, templates: &[Policy], links: &[TemplateLink])
     ensures { PolicySetReadsBack (policies_view policies.now) (map policy_view templates.now)
         (map link_view links.now) }
 {}
 
-/// A template, and a policy that is linked of it, of which each part reads back: the premises can be met.
+/// A template, a policy that is linked of it, and a set of a policy, the template and the link, of which each part
+/// reads back: the premises can be met.
 pub fn sample_policies_are_readable()
     ensures template { TemplateIsReadable }
     ensures policy { PolicyIsReadable }
+    ensures set { SetIsReadable }
 {}
