@@ -30,9 +30,9 @@ pub fn annotations_read_back(annotations: &Annotations)
 {}
 
 /// What is written of a constraint on this variable that stands in a scope reads back as itself, where types have the
-/// names of types: `true`, and for the variable `v` and an entity `E` `v == E` and `v in E`, beside the action `v in
-/// [E, ..]`, and beside the principal and the resource `v is T` and `v is T && v in E`. In a template the variable's
-/// own slot may stand in the place of `E`; where a slot is linked to an entity, it reads back as that entity.
+/// names of types: `true`, and for the variable `v` and an entity `E` `v == E` and `v in E`, beside the action
+/// `v in [E, ..]`, and beside the principal and the resource `v is T` and `v is T && v in E`. In a template the
+/// variable's own slot may stand in the place of `E`; where a slot is linked to an entity, it reads back as that entity.
 pub fn scopes_read_back(var: Var, constraint: &Expr)
     ensures itself { ScopeReadsBack (variable_view var) (view constraint.now) }
     ensures linked { LinkedScopeReadsBack (variable_view var) (view constraint.now) }
