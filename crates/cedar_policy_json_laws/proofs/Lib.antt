@@ -5,3 +5,4 @@ pub mod Scopes
 pub mod Policies
 pub mod Samples
 pub mod PolicySets
+pub mod Conditions

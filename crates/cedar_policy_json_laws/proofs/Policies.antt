@@ -112,41 +112,67 @@ module _ (is_open : Bool) (k : Knowledge) (n : ℕ) (p : PolicyView) (h : IsRead
       ap (λ (j : Json). conditions_said (expression_said k n) j) conditions_are
       ∙ condition_by (expression_said k n) p.slots p.when_clause (is_truth p.when_clause) refl (λ e. expression_reads_back p.when_clause p.slots k n (h.has_condition e))
 
-  annotations_left : annotations_said (annotations_json p.annotations) ≡ Ok p.annotations
-  annotations_left = annotations_back p.annotations h.under_words h.in_order
+-- ---- the whole, of what its parts say
 
--- its annotations are left out where there are none
-module _ (is_open : Bool) (k : Knowledge) (n : ℕ) (e : Effect) (id : Text) (x y z t : Term) (s : Slots) where
-  abbrev annotated : List (Text × Text) → PolicyView
-  annotated ps = record {
+abbrev read_as : PolicyView → Term → Term → Term → Term → PolicyView
+read_as p x y z t = record p {
+  principal_constraint = x;
+  action_constraint = y;
+  resource_constraint = z;
+  when_clause = t;
+  slots = no_slots;
+}
+
+-- annotations are left out where there are none
+module _ (is_open : Bool) (says : Reading) (id : Text) (a b c d : Term) (s : Slots) (x y z t : Term) where
+  abbrev annotated : Effect → List (Text × Text) → PolicyView
+  annotated e ps = record {
     effect = e;
     id = id;
     annotations = ps;
-    principal_constraint = x;
-    action_constraint = y;
-    resource_constraint = z;
-    when_clause = t;
+    principal_constraint = a;
+    action_constraint = b;
+    resource_constraint = c;
+    when_clause = d;
     slots = s;
   }
 
-  by_annotations : (ps : List (Text × Text)) → IsReadablePolicy is_open k n (annotated ps)
-      → policy_by is_open (expression_said k n) id (policy_json (annotated ps)) ≡ Ok (with_entities (annotated ps))
-  by_annotations [] h =
+  by_annotations : (e : Effect) (ps : List (Text × Text))
+      → scope_said is_open principal (head_json (principal_scope (annotated e ps))) ≡ Ok x
+      → scope_said is_open action (head_json (action_scope (annotated e ps))) ≡ Ok y
+      → scope_said is_open resource (head_json (resource_scope (annotated e ps))) ≡ Ok z
+      → conditions_said says (conditions_json (annotated e ps)) ≡ Ok t
+      → annotations_said (annotations_json ps) ≡ Ok ps
+      → policy_by is_open says id (policy_json (annotated e ps)) ≡ Ok (read_as (annotated e ps) x y z t)
+  by_annotations e [] first second third condition under_keys =
       λ i. made_of (policy_made id) (both_said (under (at_key (codes "effect")) (effect_back e i))
-      (both_said (both_said (both_said (under (at_key (codes "principal")) (principal_back is_open k n (annotated []) h i))
-      (both_said (under (at_key (codes "action")) (action_back is_open k n (annotated []) h i)) (under (at_key (codes "resource")) (resource_back is_open k n (annotated []) h i))))
-      (under (at_key (codes "conditions")) (conditions_back is_open k n (annotated []) h i))) (Ok [])))
-  by_annotations (a ∷ more) h =
+      (both_said (both_said (both_said (under (at_key (codes "principal")) (first i))
+      (both_said (under (at_key (codes "action")) (second i)) (under (at_key (codes "resource")) (third i))))
+      (under (at_key (codes "conditions")) (condition i))) (Ok [])))
+  by_annotations e (m ∷ ms) first second third condition under_keys =
       λ i. made_of (policy_made id) (both_said (under (at_key (codes "effect")) (effect_back e i))
-      (both_said (both_said (both_said (under (at_key (codes "principal")) (principal_back is_open k n (annotated (a ∷ more)) h i))
-      (both_said (under (at_key (codes "action")) (action_back is_open k n (annotated (a ∷ more)) h i)) (under (at_key (codes "resource")) (resource_back is_open k n (annotated (a ∷ more)) h i))))
-      (under (at_key (codes "conditions")) (conditions_back is_open k n (annotated (a ∷ more)) h i)))
-      (under (at_key (codes "annotations")) (annotations_left is_open k n (annotated (a ∷ more)) h i))))
+      (both_said (both_said (both_said (under (at_key (codes "principal")) (first i))
+      (both_said (under (at_key (codes "action")) (second i)) (under (at_key (codes "resource")) (third i))))
+      (under (at_key (codes "conditions")) (condition i)))
+      (under (at_key (codes "annotations")) (under_keys i))))
+
+pub parts_back : (is_open : Bool) (says : Reading) (p : PolicyView) (x y z t : Term)
+    → scope_said is_open principal (head_json (principal_scope p)) ≡ Ok x
+    → scope_said is_open action (head_json (action_scope p)) ≡ Ok y
+    → scope_said is_open resource (head_json (resource_scope p)) ≡ Ok z
+    → conditions_said says (conditions_json p) ≡ Ok t
+    → annotations_said (annotations_json p.annotations) ≡ Ok p.annotations
+    → policy_by is_open says p.id (policy_json p) ≡ Ok (read_as p x y z t)
+parts_back is_open says p x y z t =
+    by_annotations is_open says p.id p.principal_constraint p.action_constraint p.resource_constraint p.when_clause p.slots x y z t p.effect p.annotations
 
 whole_back : (is_open : Bool) (k : Knowledge) (n : ℕ) (p : PolicyView) → IsReadablePolicy is_open k n p
     → policy_by is_open (expression_said k n) p.id (policy_json p) ≡ Ok (with_entities p)
 whole_back is_open k n p h =
-    by_annotations is_open k n p.effect p.id p.principal_constraint p.action_constraint p.resource_constraint p.when_clause p.slots p.annotations h
+    parts_back is_open (expression_said k n) p (linked_constraint p.slots p.principal_constraint) (linked_constraint p.slots p.action_constraint)
+    (linked_constraint p.slots p.resource_constraint) p.when_clause
+    (principal_back is_open k n p h) (action_back is_open k n p h) (resource_back is_open k n p h) (conditions_back is_open k n p h)
+    (annotations_back p.annotations h.under_words h.in_order)
 
 -- where no slot is linked, all is as it was
 policy_stays : (p : PolicyView) → with_entities (with_slots p no_slots) ≡ with_slots p no_slots

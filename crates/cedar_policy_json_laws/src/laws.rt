@@ -6,6 +6,7 @@ ghost use Rattle.cedar_layers.specs.Policies.{annotations_view, policy_view};
 ghost use Rattle.cedar_layers.specs.PolicySets.{policies_view};
 ghost use Rattle.cedar_policy_json_writer.specs.Links.{link_view};
 ghost use Rattle.cedar_policy_json_laws.specs.Back.{ExpressionReadsBack, AnnotationsReadBack};
+ghost use Rattle.cedar_policy_json_laws.specs.Conditions.{AnyPolicyReadsBack};
 ghost use Rattle.cedar_policy_json_laws.specs.Policies.{ScopeReadsBack, LinkedScopeReadsBack, PolicyReadsBack};
 ghost use Rattle.cedar_policy_json_laws.specs.Policies.{LinkedPolicyReadsBack, TemplateReadsBack};
 ghost use Rattle.cedar_policy_json_laws.specs.PolicySets.{PolicySetReadsBack};
@@ -45,6 +46,12 @@ pub fn scopes_read_back(var: Var, constraint: &Expr)
 pub fn policies_read_back(policy: &Policy)
     ensures itself { PolicyReadsBack (policy_view policy.now) }
     ensures linked { LinkedPolicyReadsBack (policy_view policy.now) }
+{}
+
+/// What is written of a policy with a constraint that no scope has, as code may make one, reads back as the policy with
+/// that constraint, and each behind it, as a condition before its own (`with_conditions`), where each part reads back.
+pub fn constraints_read_back_as_conditions(policy: &Policy)
+    ensures { AnyPolicyReadsBack (policy_view policy.now) }
 {}
 
 /// What is written of a template reads back as the template, where it is read under its id and each part reads back,
