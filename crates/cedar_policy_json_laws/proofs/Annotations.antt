@@ -1,13 +1,12 @@
 -- Annotations read back.
-use Rattle.std.proofs.Common.{◌≡◌, ℕ, suc, Bool, true, eq-eqb, List, [], ◌∷◌, map, length, Ok, refl, ap, ◌∙◌}
+use Rattle.std.proofs.Common.{◌≡◌, ℕ, suc, Bool, eq-eqb, List, [], ◌∷◌, map, length, Ok, refl, ap, ◌∙◌}
 use Rattle.std.specs.Prelude.{if◌then◌else◌, ◌==◌}
 use Rattle.json.specs.Strict.{keys}
 use Rattle.cedar_model.specs.Terms.{Text}
-use Rattle.cedar_text_lexer.specs.Words.{is_word}
 use Rattle.cedar_json_writer.specs.Trees.{members_of}
 use Rattle.cedar_policy_json_reader.specs.declared.errors.RefusalReason.TheVariants as reasons
 use Rattle.cedar_policy_json_reader.specs.Paths.{at_key}
-use Rattle.cedar_policy_json_reader.specs.Policies.{put_annotation, annotations_from, annotations_said, distinct}
+use Rattle.cedar_policy_json_reader.specs.Policies.{put_annotation, annotations_from, distinct}
 use Rattle.cedar_policy_json_reader.specs.Refusals.{Said, refused, under, and_then}
 use Rattle.cedar_policy_json_writer.specs.Policies.{annotation_member}
 use Rattle.cedar_policy_json_laws.specs.Back.{AreUnderWords, put_all, AnnotationsReadBack}

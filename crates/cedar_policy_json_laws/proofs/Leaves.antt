@@ -1,16 +1,16 @@
 -- Names, patterns and attributes read back.
-use Rattle.std.proofs.Common.{◌≡◌, ℕ, ◌+◌, Bool, true, List, [], ◌∷◌, ◌++◌, map, Option, Some, None, Ok, refl, sym, ap, ◌∙◌, codes}
+use Rattle.std.proofs.Common.{◌≡◌, ℕ, ◌+◌, Bool, true, List, [], ◌∷◌, ◌++◌, map, Ok, refl, sym, ap, ◌∙◌}
 use Rattle.std.specs.Prelude.{if◌then◌else◌}
 use Rattle.std.specs.Char.{encode_utf8}
-use Rattle.std.specs.Str.{chars, all_scalars, encode_utf8_all}
+use Rattle.std.specs.Str.{chars, all_scalars}
 use Rattle.std.proofs.lemmas.Str.{chars-encodes}
-use Rattle.json.specs.Json.{string, array}
+use Rattle.json.specs.Json.{string}
 use Rattle.json.specs.Value.{items_of}
 use Rattle.cedar_model.specs.Terms.{Text, PatternPart, character, wildcard}
 use Rattle.cedar_policy_json_reader.specs.declared.errors.RefusalReason.TheVariants as reasons
 use Rattle.cedar_policy_json_reader.specs.Leaves.{name_said, parts_said, part_said, texts_said}
-use Rattle.cedar_policy_json_reader.specs.Paths.{at_key, at_index}
-use Rattle.cedar_policy_json_reader.specs.Refusals.{Said, refused, under, before, all_before, made_of}
+use Rattle.cedar_policy_json_reader.specs.Paths.{at_index}
+use Rattle.cedar_policy_json_reader.specs.Refusals.{refused, under, before, all_before}
 use Rattle.cedar_policy_json_reader.specs.Words.{is_name}
 use Rattle.cedar_policy_json_writer.specs.Expressions.{pattern_part_json}
 use Rattle.cedar_policy_json_laws.specs.Back.{IsReadablePattern}

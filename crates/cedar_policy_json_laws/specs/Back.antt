@@ -8,7 +8,7 @@ use Rattle.cedar_model.specs.Terms.{extension_type, PatternPart, character, wild
 use Rattle.cedar_model.specs.Terms.{unknown, if_then_else, both, either, unary, binary, call, get_attribute}
 use Rattle.cedar_model.specs.Terms.{has_attribute, extended_has, like, is_of_type, set_of, record_of}
 use Rattle.cedar_model.specs.Terms.{Terms, no_terms, one_term, Fields, no_fields, one_field}
-use Rattle.cedar_model.specs.Agreement.{no_slots}
+use Rattle.cedar_model.specs.World.{Slots}
 use Rattle.cedar_model.specs.Outcomes.{is_long}
 use Rattle.cedar_model.specs.Refusals.{first_repeated}
 use Rattle.cedar_expressions.specs.Records.{fields_in_order}
@@ -120,10 +120,10 @@ abbrev pub IsReadable : Knowledge → ℕ → Term → Type 0
 IsReadable k zero t = ⊥
 IsReadable k (suc n) t = IsReadableOver (IsReadable k n) k t
 
--- what is written of it is read as itself
+-- what is written of it is read as itself, whatever slots are linked
 abbrev pub ExpressionReadsBack : Term → Type 0
 ExpressionReadsBack t =
-    (k : Knowledge) (n : ℕ) → IsReadable k n t → expression_said k n (expression_json no_slots t) ≡ Ok t
+    (s : Slots) (k : Knowledge) (n : ℕ) → IsReadable k n t → expression_said k n (expression_json s t) ≡ Ok t
 
 -- ---- annotations
 

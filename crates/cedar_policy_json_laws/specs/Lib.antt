@@ -1,1 +1,5 @@
 pub mod Back
+pub mod Policies
+pub mod Samples
+pub mod PolicySets
+pub mod Conditions
