@@ -6,8 +6,8 @@
 //!   question.
 //! - `notation` (and below it): reads what a line says: expressions, values, policies, errors, and the setting of
 //!   rows.
-//! - `answers` (and below it): rows that are evaluated in a setting. `judged`, `stepped`, `steps`, `staged`: policies,
-//!   what is known of them, steps, and the same in stages.
+//! - `answers` (and below it): rows that are evaluated in a setting. `judged`, `stepped`, `steps`: policies, what is
+//!   known of them, and steps.
 //! - `written` (and below it): rows of what is written in them, without policy or store. `levels`: what fewer and
 //!   more levels change.
 //! - `functions`: the functions that are stored for a case. `program`: what `cedar_rows` prints, and its statuses.
@@ -24,7 +24,6 @@ mod levels;
 mod notation;
 mod program;
 mod questions;
-mod staged;
 mod stepped;
 mod steps;
 mod written;

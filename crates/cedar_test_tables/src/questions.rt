@@ -9,9 +9,8 @@
 //!   evaluator, and by those of the setting);
 //! - of the ids of policies and the steps behind them: `chain LIMIT` (what is known after the last step, which is the
 //!   same by `authorize_in_steps` and by one `reauthorize` a step), `in-steps LIMIT` and `one-by-one LIMIT` (by the
-//!   first, and by the second alone), `staged LIMIT` (by `Staged`), and, instead of a limit, `get ID`, `request`,
-//!   `readers`, `unknowns`, `json`, `whole` (the whole response in JSON) and `mode` (what these answer of it, the last of
-//!   a copy too);
+//!   first, and by the second alone), and, instead of a limit, `get ID`, `request`, `readers`, `unknowns`, `json`,
+//!   `whole` (the whole response in JSON) and `mode` (what these answer of it, the last of a copy too);
 //! - of the notes that a response is made of and the steps behind them: `made`, `made readers`, `made request`,
 //!   `made unknowns`, `made json`, `made mode` and `made get ID`;
 //! - of a step: `context-with LIMIT` (the context of the setting with its values);
@@ -45,7 +44,7 @@ pub fn ask(
         "set" | "set-debug" => judged::ask_set(answer, facts, kind, words),
         "policy" | "condition" => judged::ask_policy(answer, facts, kind, words),
         "context-with" => stepped::ask_context(answer, setting, argument, words),
-        "chain" | "in-steps" | "one-by-one" | "staged" | "made" => {
+        "chain" | "in-steps" | "one-by-one" | "made" => {
             stepped::ask(answer, facts, setting, kind, argument, words)
         }
         "run" | "run-without-functions" | "step-refused" | "failing-output" => {

@@ -10,7 +10,6 @@ use crate::notation::settings::Setting;
 use crate::notation::shown::is_equal;
 use crate::notation::unanswered::Unanswered;
 use crate::notation::{add, both, split_first_word};
-use crate::staged::put_staged;
 use crate::steps::{Step, mapping, sheet, steps};
 use cedar_authorizer::authorizer::{
     AuthorizationError, Authorizer, ConcretizationError, Decision, ErrorHandling, PartialResponse,
@@ -133,7 +132,6 @@ fn put_chained(
     match question {
         "in-steps" => put_in_steps(answer, setting, asked, limit, policies, steps),
         "one-by-one" => put_one_by_one(answer, setting, asked, limit, policies, steps),
-        "staged" => put_staged(answer, setting, asked, limit, policies, steps),
         _ => {
             let mut text = Answer::new(answer.alloc);
             put_in_steps(&mut text, setting, asked, limit, policies, steps);
@@ -375,20 +373,16 @@ fn put_answered(
 ) {
     match outcome {
         Ok(response) => put_asked(answer, asked, response),
-        Err(error) => put_refused(answer, error),
+        Err(error) => {
+            answer.put(refusal(error));
+            answer.put(": ");
+            answer.show_refusal(error);
+            put_conflict(answer, error);
+        }
     }
 }
 
-/// Why a step is refused.
-pub fn put_refused(answer: &mut Answer, error: &ReauthorizationError) {
-    answer.put(refusal(error));
-    answer.put(": ");
-    answer.show_refusal(error);
-    put_conflict(answer, error);
-}
-
-/// What is asked of the response.
-pub fn put_asked(answer: &mut Answer, asked: &str, response: &PartialResponse) {
+fn put_asked(answer: &mut Answer, asked: &str, response: &PartialResponse) {
     match split_first_word(asked) {
         ("get", id) => put_got(answer, response, id),
         ("readers", _) => put_readers(answer, response),
