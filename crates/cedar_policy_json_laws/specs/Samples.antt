@@ -1,5 +1,5 @@
--- Instances of the premises of `Policies`, `PolicySets` and `Conditions`: a template, a policy that is linked of it, the
--- set of a policy, the template and the link, and a policy with a constraint that no scope has.
+-- Instances of the premises of `Policies`, `PolicySets` and `Conditions`: a template, a policy that is linked of it,
+-- the set of a policy, the template and the link, and a policy with a constraint that no scope has.
 use Rattle.std.specs.Prelude.{true, false, [], ◌∷◌, Some, None, codes}
 use Rattle.cedar_model.specs.Terms.{Text, EntityName, entity_literal, principal, action, resource, context}
 use Rattle.cedar_model.specs.Terms.{principal_slot, eq_operator, in_operator, Term, literal, variable}

@@ -21,7 +21,7 @@ use cedar_policy_json_writer::TemplateLink;
 /// What is written of an expression reads back as itself, within so many levels as it has, where it can be read: each
 /// function that it calls is known, takes so many arguments, and has no operator's name; types have the names of types;
 /// longs are of 64 bits, characters of patterns are characters, and the keys of records are in order; and no slot is in
-/// it, whatever slots are linked.
+/// it, so that it does not matter which are linked.
 pub fn expressions_read_back(expr: &Expr)
     ensures { ExpressionReadsBack (view expr.now) }
 {}
@@ -34,7 +34,8 @@ pub fn annotations_read_back(annotations: &Annotations)
 /// What is written of a constraint on this variable that stands in a scope reads back as itself, where types have the
 /// names of types: `true`, and for the variable `v` and an entity `E` `v == E` and `v in E`, beside the action
 /// `v in [E, ..]`, and beside the principal and the resource `v is T` and `v is T && v in E`. In a template the
-/// variable's own slot may stand in the place of `E`; where a slot is linked to an entity, it reads back as that entity.
+/// variable's own slot may stand in the place of `E`; where a slot is linked to an entity, it reads back as that
+/// entity.
 pub fn scopes_read_back(var: Var, constraint: &Expr)
     ensures itself { ScopeReadsBack (variable_view var) (view constraint.now) }
     ensures linked { LinkedScopeReadsBack (variable_view var) (view constraint.now) }

@@ -5,8 +5,8 @@
 //! - `specs/Back.antt`: which expressions can be read (`IsReadable`), and that they and annotations read back
 //!   (`ExpressionReadsBack`, `AnnotationsReadBack`).
 //! - `specs/Policies.antt`: the same of scopes, policies and templates (`ScopeReadsBack`, `PolicyReadsBack`,
-//!   `TemplateReadsBack`); `specs/PolicySets.antt`: of sets (`PolicySetReadsBack`); `specs/Conditions.antt`: of policies
-//!   with a constraint that no scope has (`AnyPolicyReadsBack`, `ConditionsMeanTheSame`).
+//!   `TemplateReadsBack`); `specs/PolicySets.antt`: of sets (`PolicySetReadsBack`); `specs/Conditions.antt`: of
+//!   policies with a constraint that no scope has (`AnyPolicyReadsBack`, `ConditionsMeanTheSame`).
 //! - `specs/Samples.antt`: policies and a set that can be read.
 //!
 //! The promise: an expression that is written reads back as itself, within as many levels as it has, where the
