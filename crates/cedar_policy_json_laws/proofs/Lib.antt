@@ -6,3 +6,4 @@ pub mod Policies
 pub mod Samples
 pub mod PolicySets
 pub mod Conditions
+pub mod Meanings

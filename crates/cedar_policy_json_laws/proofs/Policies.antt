@@ -35,7 +35,7 @@ true_is : (l : Literal) → is_true_literal l ≡ true → literal l ≡ truth
 true_is (bool_literal b) e = ap (λ (c : Bool). literal (bool_literal c)) e
 true_is _ e = never e
 
-truth_is : (t : Term) → is_truth t ≡ true → t ≡ truth
+pub truth_is : (t : Term) → is_truth t ≡ true → t ≡ truth
 truth_is (literal l) e = true_is l e
 truth_is _ e = never e
 

@@ -4,7 +4,7 @@ use Rattle.cedar_text_lexer.specs.Words.{begins_reserved}
 use Rattle.cedar_names.specs.Equality.{variable_eq}
 use Rattle.cedar_functions.specs.Functions.{any}
 use Rattle.cedar_policy_json_laws.specs.Policies.{IsReadablePolicy}
-use Rattle.cedar_policy_json_laws.specs.Samples.{sample_policy, SetIsReadable, TemplateIsReadable, PolicyIsReadable}
+use Rattle.cedar_policy_json_laws.specs.Samples.{sample_policy, ConditionsAreReadable, SetIsReadable, TemplateIsReadable, PolicyIsReadable}
 
 pub template_is_readable : TemplateIsReadable
 unfolding variable_eq begins_reserved
@@ -48,4 +48,15 @@ set_is_readable = record {
   links_make = refl;
   templates_apart = refl;
   policies_apart = refl;
+}
+
+pub conditions_are_readable : ConditionsAreReadable
+unfolding variable_eq begins_reserved
+conditions_are_readable = record {
+  principal_reads = λ e. tt;
+  action_reads = λ e. (tt, (refl, (refl, tt)));
+  resource_reads = λ e. ((tt, refl), (tt, refl));
+  has_condition = λ e. tt;
+  under_words = (refl, tt);
+  in_order = refl;
 }

@@ -2,9 +2,10 @@
 use Rattle.std.specs.Prelude.{◌≡◌, ℕ, Bool, false, cond, ◌||◌, is_some, List, [], ◌∷◌, ◌++◌, Option, Some, None, Ok}
 use Rattle.cedar_model.specs.Terms.{Term}
 use Rattle.cedar_model.specs.Agreement.{no_slots}
-use Rattle.cedar_model.specs.World.{Slots}
+use Rattle.cedar_model.specs.Meaning.{meaning}
+use Rattle.cedar_model.specs.World.{World, Slots, Extensions, Functions}
 use Rattle.cedar_functions.specs.Functions.{Knowledge}
-use Rattle.cedar_layers.specs.Policies.{PolicyView}
+use Rattle.cedar_layers.specs.Policies.{PolicyView, condition_term}
 use Rattle.cedar_policy_json_reader.specs.Policies.{joined, policy_said}
 use Rattle.cedar_policy_json_reader.specs.Scopes.{truth}
 use Rattle.cedar_policy_json_writer.specs.Policies.{principal_scope, action_scope, resource_scope, policy_json}
@@ -60,3 +61,9 @@ abbrev pub AnyPolicyReadsBack : PolicyView → Type 0
 AnyPolicyReadsBack p =
     (k : Knowledge) (n : ℕ) → IsReadableAnywhere false k n p
     → policy_said k n p.id (policy_json p) ≡ Ok (with_conditions p)
+
+-- the policy that is read means in each world what the one means that was written, where no slot is linked
+abbrev pub ConditionsMeanTheSame : PolicyView → Type 0
+ConditionsMeanTheSame p =
+    p.slots ≡ no_slots → (X : Extensions) (ans : Functions) (w : World)
+    → meaning X ans w no_slots (condition_term (with_conditions p)) ≡ meaning X ans w p.slots (condition_term p)

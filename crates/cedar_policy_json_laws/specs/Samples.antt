@@ -1,5 +1,5 @@
--- An instance of the premises of `Policies` and `PolicySets`: a template, a policy that is linked of it, and the set of
--- a policy, the template and the link.
+-- Instances of the premises of `Policies`, `PolicySets` and `Conditions`: a template, a policy that is linked of it,
+-- the set of a policy, the template and the link, and a policy with a constraint that no scope has.
 use Rattle.std.specs.Prelude.{true, false, [], ◌∷◌, Some, None, codes}
 use Rattle.cedar_model.specs.Terms.{Text, EntityName, entity_literal, principal, action, resource, context}
 use Rattle.cedar_model.specs.Terms.{principal_slot, eq_operator, in_operator, Term, literal, variable}
@@ -12,6 +12,7 @@ use Rattle.cedar_layers.specs.Policies.{PolicyView, linked}
 use Rattle.cedar_policy_json_reader.specs.Scopes.{truth}
 use Rattle.cedar_policy_json_writer.specs.Links.{Link}
 use Rattle.cedar_template_links.specs.Linking.{slots_with}
+use Rattle.cedar_policy_json_laws.specs.Conditions.{IsReadableAnywhere}
 use Rattle.cedar_policy_json_laws.specs.Policies.{IsReadablePolicy}
 use Rattle.cedar_policy_json_laws.specs.PolicySets.{IsReadableSet}
 
@@ -71,3 +72,10 @@ abbrev pub SetIsReadable : Type 0
 SetIsReadable =
     IsReadableSet any 2 (sample_policy ∷ []) (sample no_slots ∷ []) (sample_link ∷ [])
     (linked (sample no_slots) (codes "ann") sample_slots ∷ [])
+
+-- `principal.guest`, which no scope has
+abbrev pub sample_constraint : PolicyView
+sample_constraint = record sample_policy { principal_constraint = get_attribute (variable principal) (codes "guest") }
+
+abbrev pub ConditionsAreReadable : Type 0
+ConditionsAreReadable = IsReadableAnywhere false any 3 sample_constraint

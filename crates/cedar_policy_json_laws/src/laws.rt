@@ -6,11 +6,12 @@ ghost use Rattle.cedar_layers.specs.Policies.{annotations_view, policy_view};
 ghost use Rattle.cedar_layers.specs.PolicySets.{policies_view};
 ghost use Rattle.cedar_policy_json_writer.specs.Links.{link_view};
 ghost use Rattle.cedar_policy_json_laws.specs.Back.{ExpressionReadsBack, AnnotationsReadBack};
-ghost use Rattle.cedar_policy_json_laws.specs.Conditions.{AnyPolicyReadsBack};
+ghost use Rattle.cedar_policy_json_laws.specs.Conditions.{AnyPolicyReadsBack, ConditionsMeanTheSame};
 ghost use Rattle.cedar_policy_json_laws.specs.Policies.{ScopeReadsBack, LinkedScopeReadsBack, PolicyReadsBack};
 ghost use Rattle.cedar_policy_json_laws.specs.Policies.{LinkedPolicyReadsBack, TemplateReadsBack};
 ghost use Rattle.cedar_policy_json_laws.specs.PolicySets.{PolicySetReadsBack};
 ghost use Rattle.cedar_policy_json_laws.specs.Samples.{TemplateIsReadable, PolicyIsReadable, SetIsReadable};
+ghost use Rattle.cedar_policy_json_laws.specs.Samples.{ConditionsAreReadable};
 
 use cedar_expressions::Expr;
 use cedar_layers::policies::{Annotations, Policy, PolicySet};
@@ -20,7 +21,7 @@ use cedar_policy_json_writer::TemplateLink;
 /// What is written of an expression reads back as itself, within so many levels as it has, where it can be read: each
 /// function that it calls is known, takes so many arguments, and has no operator's name; types have the names of types;
 /// longs are of 64 bits, characters of patterns are characters, and the keys of records are in order; and no slot is in
-/// it, whatever slots are linked.
+/// it, so that it does not matter which are linked.
 pub fn expressions_read_back(expr: &Expr)
     ensures { ExpressionReadsBack (view expr.now) }
 {}
@@ -33,7 +34,8 @@ pub fn annotations_read_back(annotations: &Annotations)
 /// What is written of a constraint on this variable that stands in a scope reads back as itself, where types have the
 /// names of types: `true`, and for the variable `v` and an entity `E` `v == E` and `v in E`, beside the action
 /// `v in [E, ..]`, and beside the principal and the resource `v is T` and `v is T && v in E`. In a template the
-/// variable's own slot may stand in the place of `E`; where a slot is linked to an entity, it reads back as that entity.
+/// variable's own slot may stand in the place of `E`; where a slot is linked to an entity, it reads back as that
+/// entity.
 pub fn scopes_read_back(var: Var, constraint: &Expr)
     ensures itself { ScopeReadsBack (variable_view var) (view constraint.now) }
     ensures linked { LinkedScopeReadsBack (variable_view var) (view constraint.now) }
@@ -50,8 +52,11 @@ pub fn policies_read_back(policy: &Policy)
 
 /// What is written of a policy with a constraint that no scope has, as code may make one, reads back as the policy with
 /// that constraint, and each behind it, as a condition before its own (`with_conditions`), where each part reads back.
+/// Where no slot is linked, its condition has in each world the meaning of the one that was written: the same boolean,
+/// or the same error.
 pub fn constraints_read_back_as_conditions(policy: &Policy)
-    ensures { AnyPolicyReadsBack (policy_view policy.now) }
+    ensures conditions { AnyPolicyReadsBack (policy_view policy.now) }
+    ensures meaning { ConditionsMeanTheSame (policy_view policy.now) }
 {}
 
 /// What is written of a template reads back as the template, where it is read under its id and each part reads back,
@@ -68,10 +73,11 @@ pub fn policy_sets_read_back(policies: &PolicySet, templates: &[Policy], links: 
         (map link_view links.now) }
 {}
 
-/// A template, a policy that is linked of it, and a set of a policy, the template and the link, of which each part
-/// reads back: the premises can be met.
+/// A template, a policy that is linked of it, a set of a policy, the template and the link, and a policy with a
+/// constraint that no scope has, of which each part reads back: the premises can be met.
 pub fn sample_policies_are_readable()
     ensures template { TemplateIsReadable }
     ensures policy { PolicyIsReadable }
     ensures set { SetIsReadable }
+    ensures conditions { ConditionsAreReadable }
 {}

@@ -5,8 +5,9 @@
 //! - `specs/Back.antt`: which expressions can be read (`IsReadable`), and that they and annotations read back
 //!   (`ExpressionReadsBack`, `AnnotationsReadBack`).
 //! - `specs/Policies.antt`: the same of scopes, policies and templates (`ScopeReadsBack`, `PolicyReadsBack`,
-//!   `TemplateReadsBack`); `specs/PolicySets.antt`: of sets (`PolicySetReadsBack`). `specs/Samples.antt` has a
-//!   template, a policy and a set that can be read.
+//!   `TemplateReadsBack`); `specs/PolicySets.antt`: of sets (`PolicySetReadsBack`); `specs/Conditions.antt`: of
+//!   policies with a constraint that no scope has (`AnyPolicyReadsBack`, `ConditionsMeanTheSame`).
+//! - `specs/Samples.antt`: policies and a set that can be read.
 //!
 //! The promise: an expression that is written reads back as itself, within as many levels as it has, where the
 //! functions that it calls are known and go by no operator's name, where names of types are names, longs of 64 bits,
@@ -14,7 +15,8 @@
 //! do, where their keys are words in the order of their bytes. A policy or a template that is written reads back as
 //! itself, under its id, where its three constraints stand in the scope and each part reads back; a policy that is
 //! linked, with the entities in the place of its slots; and a set of them, where no id comes twice, with the policies
-//! that its links make.
+//! that its links make. A constraint that no scope has is written as a condition, and reads back in the policy's
+//! condition, which then means the same.
 #![tactic(auto)]
 
 pub mod laws;
