@@ -265,10 +265,7 @@ fn print_without_policies(
         Ok(none) => {
             let saved = print_and_save(alloc, line, &none, way, stages, extensions, warnings);
             drop(none);
-            match saved {
-                Ok(saved) => Ok(saved),
-                Err(AllocError) => Err(Refusal::Memory),
-            }
+            Ok(saved?)
         }
         Err(error) => {
             drop(error);
