@@ -11,7 +11,7 @@ use Rattle.cedar_endpoints.specs.declared.documents.Unread.{Unread}
 use Rattle.cedar_endpoints.specs.declared.documents.Unread.TheVariants as unreads
 use Rattle.cedar_endpoints.specs.Asked.{Text}
 use Rattle.cedar_endpoints.specs.Documents.{IsDocument, IsUnread}
-use Rattle.cedar_endpoints.specs.Ids.{HaveNumbers, id_said, IsIdIn, is_unread, is_repeated, is_said, IsIdUnread, inside}
+use Rattle.cedar_endpoints.specs.Ids.{HaveNumbers, given_id, IsIdIn, is_unread, is_repeated, is_said, IsIdUnread, inside}
 use Rattle.cedar_endpoints.proofs.Texts.{of_ok}
 
 -- ---- the id
@@ -30,7 +30,7 @@ pub as_id_unread : (text : Text) (o : Result (Option String) AllocError) (u : Un
 as_id_unread text o u is h = of_ok _ _ (λ i none. id_of_unread text u (option_map string_bytes i) is none) o h
 
 pub as_id_said : (text : Text) (o : Result (Option String) AllocError) (j : Json) → IsDocument text j
-    → IfOk o (λ i. option_map string_bytes i ≡ id_said j) → IfOk o (λ i. IsIdIn text (option_map string_bytes i))
+    → IfOk o (λ i. option_map string_bytes i ≡ given_id j) → IfOk o (λ i. IsIdIn text (option_map string_bytes i))
 as_id_said text o j is h = of_ok _ _ (λ i same. is_said is same) o h
 
 -- ---- what stands in an object

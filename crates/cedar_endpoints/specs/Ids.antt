@@ -22,14 +22,14 @@ abbrev pub id_text : Option Json → Option Text
 id_text o = option_map json_text o
 
 -- the id of a request, as text, if it has one: any value
-abbrev pub id_said : Json → Option Text
-id_said j = id_text (get (codes "id") j)
+abbrev pub given_id : Json → Option Text
+given_id j = id_text (get (codes "id") j)
 
 -- the same of the request that a text is; none of one that is no JSON, or in which an object has a key twice
 pub data IsIdIn (text : Text) (id : Option Text) : Type 0 where
   is_unread : document text ≡ None → id ≡ None → IsIdIn text id
   is_repeated : IsSomeAnd (document text) (λ j. ¬ HasUniqueKeys j) → id ≡ None → IsIdIn text id
-  is_said : {j : Json} → IsDocument text j → id ≡ id_said j → IsIdIn text id
+  is_said : {j : Json} → IsDocument text j → id ≡ given_id j → IsIdIn text id
 
 -- ---- in a reply
 

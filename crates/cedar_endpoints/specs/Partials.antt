@@ -12,7 +12,7 @@ use Rattle.cedar_endpoints.specs.declared.replies.Remainder.{Remainder}
 use Rattle.cedar_endpoints.specs.declared.replies.Remainder.TheVariants as remainders
 use Rattle.cedar_endpoints.specs.declared.replies.Reply.{Reply}
 use Rattle.cedar_endpoints.specs.Asked.{Text, Said, Named, named_view, unless, and_then, object_fault, text_in, text_said, context_said}
-use Rattle.cedar_endpoints.specs.Ids.{id_said, HandsBack}
+use Rattle.cedar_endpoints.specs.Ids.{given_id, HandsBack}
 use Rattle.cedar_endpoints.specs.Replies.{Replies, IsFault, error_text}
 
 -- an entity of any type that is unknown, or of this type; or one that is known, by its type and its id, or by Cedar's
@@ -127,4 +127,4 @@ IsLeft leaves text (Ok q) r = (o : Remainder) × leaves q text o × IsRemainder 
 
 -- the request of the document that the text writes is answered, if it says one, with its id, which stands for nothing else
 abbrev pub IsPartlyAnswered : Leaves → Text → Json → Reply → Type 0
-IsPartlyAnswered leaves text j r = HandsBack (id_said j) (IsLeft leaves text (partial_said j)) r
+IsPartlyAnswered leaves text j r = HandsBack (given_id j) (IsLeft leaves text (partial_said j)) r

@@ -4,7 +4,7 @@ ghost use Rattle.std.specs.Prelude.{◌≡◌, IfOk, Some, option_map, option_co
 ghost use Rattle.std.specs.Str.{IsUtf8};
 ghost use Rattle.json.specs.Tree.{HasNumbers};
 ghost use Rattle.json.specs.Value.{value_view};
-ghost use Rattle.cedar_endpoints.specs.Ids.{HaveNumbers, id_said, id_text, json_text, inside, put_first, with_id};
+ghost use Rattle.cedar_endpoints.specs.Ids.{HaveNumbers, given_id, id_text, json_text, inside, put_first, with_id};
 ghost use Rattle.cedar_endpoints.specs.Ids.{IsIdIn, IsIdUnread};
 ghost use Rattle.cedar_endpoints.specs.Replies.{Replies};
 
@@ -21,7 +21,7 @@ pub(crate) fn id_in(alloc: Global, text: &str) -> Result<Option<String>, AllocEr
     let mut scratch = Scratch::new(alloc);
     match parse_json(alloc, text, &mut scratch) {
         Ok(value) => {
-            let id = id_said(alloc, &value);
+            let id = given_id(alloc, &value);
             drop(value);
             id
         }
@@ -40,9 +40,9 @@ fn no_id(unread: Unread) -> Result<Option<String>, AllocError>
 }
 
 /// The id of the request, as text, if it has one. Refuses only if out of memory.
-pub(crate) fn id_said(alloc: Global, value: &Value<'_>) -> Result<Option<String>, AllocError>
+pub(crate) fn given_id(alloc: Global, value: &Value<'_>) -> Result<Option<String>, AllocError>
     requires { HasNumbers (value_view value.now) }
-    ensures { IfOk result (λ o. option_map string_bytes o ≡ id_said (value_view value.now)) }
+    ensures { IfOk result (λ o. option_map string_bytes o ≡ given_id (value_view value.now)) }
 {
     id_text(alloc, value.get("id"))
 }

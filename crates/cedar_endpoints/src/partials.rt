@@ -10,7 +10,7 @@ ghost use Rattle.cedar_endpoints.specs.Partials as partials;
 use crate::answers::Status;
 use crate::asked::{Fault, Keys, Named, context_of, object_fault, text_in, text_of};
 use crate::decider::Decider;
-use crate::ids::{id_said, put_id};
+use crate::ids::{given_id, put_id};
 use crate::replies::{Remainder, Reply, faulty, plain, refused};
 use json::Value;
 use std::alloc::{AllocError, Global};
@@ -227,7 +227,7 @@ pub(crate) fn answer_partly<D: Decider>(
     requires { HasNumbers (value_view value.now) }
     ensures { IfOk result (partials.IsPartlyAnswered (D.leaves decider.now) text.now (value_view value.now)) }
 {
-    let id = id_said(alloc, value)?;
+    let id = given_id(alloc, value)?;
     let reply = answer_said(alloc, decider, text, read_partial(value))?;
     put_id(alloc, id, reply)
 }
