@@ -633,6 +633,20 @@ def named(uid):
     return f"the entity `{uid[0]}::{compact(uid[1])}`"
 
 
+# The ids that Cedar's own requests have: any JSON, which stands first in the answer.
+LABELS = [7, "a \"b\"\n\u0007\u2603", None, True, {"id": {"id": []}}, [1, "1", -12345678901234567890], ""]
+
+
+def labelled(id, row):
+    """A row of which the request has an id, and so the answer."""
+    what, sent, wanted = row
+    method, path = sent.split(b" ", 2)[:2]
+    body = json.loads(sent.split(b"\r\n\r\n", 1)[1])
+    status = int(wanted.split(b" ", 2)[1])
+    return (f"{what}, with an id", request(method.decode(), path.decode(), body | {"id": id}),
+            due(status, {"id": id} | json.loads(wanted.split(b"\r\n\r\n", 1)[1])))
+
+
 LOOP, OTHER = ("Group", "loop"), ("Group", "other")
 BROUGHT = [
     HERE.authorizes("an entity that is brought", with_entities(ZOE, PLAN, entity(ZOE, EDITORS))),
@@ -670,6 +684,21 @@ BROUGHT = [
     not_partly("what is left, with null in an entity", "$.entities[0].attrs.a", "null is no value", with_entities(ZOE, PLAN, entity(ZOE, a=None))),
     not_partly("what is left, with entities that are none", "$.entities", "not an array", with_entities(ZOE, PLAN) | {"entities": 1}),
 ]
+
+LABELLED = [
+    *(labelled(id, row) for id, row in zip(LABELS, [CEDAR[0], CEDAR[1], CEDAR[2], CEDAR[3], BROUGHT[0], BROUGHT[11], BROUGHT[5]])),
+    CEDAR[0],
+    *(labelled(id, row) for id, row in zip(LABELS, PARTIAL[:5])),
+    *(labelled(id, row) for id, row in zip(LABELS, [it for it in PARTIAL if "a principal that is a number" in it[0] or "null in" in it[0]])),
+    labelled(1, next(it for it in BROUGHT if it[0] == "what is left, with one that is stored")),
+    PARTIAL[0],
+    ("an id twice", request("POST", AUTHORIZE, b'{"id":1,"id":1}'), wrong("$", "a key comes twice in an object")),
+    ("an id twice, of what is left", request("POST", PARTLY, b'{"id":1,"id":1}'), wrong("$", "a key comes twice in an object")),
+    ("an id alone", request("POST", AUTHORIZE, {"id": 1}), due(400, {"id": 1, "error": {"path": "$.principal", "reason": "missing"}})),
+    ("an id within", request("POST", AUTHORIZE, [{"id": 1}]), wrong("$", "not an object")),
+    ("an id of an evaluation", request("POST", EVALUATION, GOOD | {"id": 1}), wrong("$", "an unexpected member")),
+]
+
 
 def takes(what, path, text, of):
     return (what, request("PUT", path, text), due(200, {"version": of}, of=of))
@@ -819,7 +848,7 @@ LAST = [
 
 def interleaved():
     """All but the last, in an order that sets good, bad and other ones beside each other."""
-    groups = [list(it) for it in (DECISIONS, WRONG, ENDPOINTS, IDS, CEDAR, FRAMING, SEVERAL, SEARCHES, PARTIAL, PROPERTIES, MANY, BROUGHT)]
+    groups = [list(it) for it in (DECISIONS, WRONG, ENDPOINTS, IDS, CEDAR, FRAMING, SEVERAL, SEARCHES, PARTIAL, PROPERTIES, MANY, BROUGHT, LABELLED)]
     out = []
     while any(groups):
         for group in groups:
@@ -841,6 +870,9 @@ def lines():
         rows.append((compact(text).encode(), response(principal, action, resource, context)))
         rows.append((b"{", {"error": {"path": "$", "reason": "not JSON"}}))
         rows.append((compact(text | {"subject": 1}).encode(), {"error": {"path": "$.subject", "reason": "unexpected"}}))
+        id = LABELS[len(rows) % len(LABELS)]
+        rows.append((compact({"id": id} | text).encode(), {"id": id} | rows[-3][1]))
+        rows.append((compact(text | {"subject": 1, "id": id}).encode(), {"id": id} | rows[-2][1]))
     rows += [(b"", {"error": {"path": "$", "reason": "not JSON"}}), (b"\xff", {"error": {"path": "$", "reason": "not UTF-8"}}),
              (rows[0][0] + b"\r", rows[0][1])]
     return b"".join(line + b"\n" for line, _ in rows), b"".join(compact(wanted).encode() + b"\n" for _, wanted in rows)

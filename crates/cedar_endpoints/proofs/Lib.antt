@@ -3,6 +3,7 @@ mod Fields
 mod Given
 mod Unread
 mod Texts
+mod Identified
 mod Joined
 mod Listed
 mod Due

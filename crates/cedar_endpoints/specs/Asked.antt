@@ -104,7 +104,7 @@ is_action_search_key k =
 abbrev pub is_request_key : Text → Bool
 is_request_key k =
     bytes_eq k (codes "principal") || (bytes_eq k (codes "action") || (bytes_eq k (codes "resource")
-    || (bytes_eq k (codes "context") || bytes_eq k (codes "entities"))))
+    || (bytes_eq k (codes "context") || (bytes_eq k (codes "entities") || bytes_eq k (codes "id")))))
 
 abbrev pub knows : Keys → Text → Bool
 knows keys.Evaluation k = is_evaluation_key k

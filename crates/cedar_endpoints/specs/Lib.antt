@@ -4,6 +4,7 @@ pub mod Asked
 pub mod Searches
 pub mod Replies
 pub mod Documents
+pub mod Ids
 pub mod Several
 pub mod Tokens
 pub mod Found

@@ -12,6 +12,7 @@ use Rattle.cedar_endpoints.specs.declared.replies.Remainder.{Remainder}
 use Rattle.cedar_endpoints.specs.declared.replies.Remainder.TheVariants as remainders
 use Rattle.cedar_endpoints.specs.declared.replies.Reply.{Reply}
 use Rattle.cedar_endpoints.specs.Asked.{Text, Said, Named, named_view, unless, and_then, object_fault, text_in, text_said, context_said}
+use Rattle.cedar_endpoints.specs.Ids.{given_id, HandsBack}
 use Rattle.cedar_endpoints.specs.Replies.{Replies, IsFault, error_text}
 
 -- an entity of any type that is unknown, or of this type; or one that is known, by its type and its id, or by Cedar's
@@ -104,7 +105,7 @@ with_resource j p a = and_then (with_context j p a) (resource_said j)
 abbrev pub with_action : Json → Entry → Said Partial
 with_action j p = and_then (with_resource j p) (action_said j)
 
--- what a document asks
+-- what a document asks, whatever its id
 abbrev pub partial_said : Json → Said Partial
 partial_said j = unless (object_fault keys.Request [] j) (and_then (with_action j) (principal_said j))
 
@@ -124,6 +125,6 @@ abbrev pub IsLeft : Leaves → Text → Said Partial → Reply → Type 0
 IsLeft leaves text (Err f) r = IsFault statuses.BadRequest f r
 IsLeft leaves text (Ok q) r = (o : Remainder) × leaves q text o × IsRemainder o r
 
--- the request of the document that the text writes is answered, if it says one
+-- the request of the document that the text writes is answered, if it says one, with its id, which stands for nothing else
 abbrev pub IsPartlyAnswered : Leaves → Text → Json → Reply → Type 0
-IsPartlyAnswered leaves text j r = IsLeft leaves text (partial_said j) r
+IsPartlyAnswered leaves text j r = HandsBack (given_id j) (IsLeft leaves text (partial_said j)) r

@@ -20,6 +20,7 @@ use Rattle.cedar_endpoints.specs.declared.service.Asks.TheVariants as asks
 use Rattle.cedar_endpoints.specs.Asked.{Text, Evaluation, evaluation_said}
 use Rattle.cedar_endpoints.specs.Found.{Finder, IsSearched}
 use Rattle.cedar_endpoints.specs.Documents.{IsRepliedTo, whole}
+use Rattle.cedar_endpoints.specs.Ids.{IsIdIn, HandsBack}
 use Rattle.cedar_endpoints.specs.Replies.{Replies, IsFault, error_text}
 use Rattle.cedar_endpoints.specs.Several.{Decides, IsDecided, AreEvaluated}
 use Rattle.cedar_endpoints.specs.Partials.{Leaves, IsPartlyAnswered}
@@ -39,10 +40,15 @@ abbrev pub IsResponded : Outcome → Reply → Type 0
 IsResponded (outcomes.Decided b context) = Replies statuses.Ok (string_bytes context)
 IsResponded (outcomes.Refused error) = Replies statuses.BadRequest (error_text (string_bytes error))
 
--- what is replied to a body: the response to the text that it is, or 400 since it is none
+-- the response to a request, without its id
+abbrev pub IsResponseTo : Decides Text → Text → Reply → Type 0
+IsResponseTo authorizes text r = (o : Outcome) × authorizes text o × IsResponded o r
+
+-- what is replied to a body: the response to the text that it is, with the id of the request; or 400 since it is none
 pub data IsAuthorized (authorizes : Decides Text) (body : Text) (r : Reply) : Type 0 where
   no_text : ¬ IsUtf8 body → IsFault statuses.BadRequest (whole (codes "not UTF-8")) r → IsAuthorized authorizes body r
-  of_text : {o : Outcome} → authorizes body o → IsResponded o r → IsAuthorized authorizes body r
+  of_text : {id : Option Text} → IsIdIn body id → HandsBack id (IsResponseTo authorizes body) r
+      → IsAuthorized authorizes body r
 
 -- ---- the endpoints
 

@@ -403,6 +403,7 @@ fn is_request_key(key: &str) -> bool
         || key == "resource"
         || key == "context"
         || key == "entities"
+        || key == "id"
 }
 
 fn is_evaluation_key(key: &str) -> bool

@@ -1,6 +1,7 @@
 #![tactic(auto, using(crate::proofs::Unread::unread))]
 //! JSON documents.
 ghost use Rattle.std.specs.Prelude.{IfOk, IfErr};
+ghost use Rattle.json.specs.Tree.{HasNumbers};
 ghost use Rattle.json.specs.Value.{value_view};
 ghost use Rattle.cedar_endpoints.specs.Documents.{IsDocument, IsUnread};
 
@@ -25,6 +26,7 @@ pub(crate) fn parse_json<'a>(
     scratch: &'a mut Scratch,
 ) -> Result<Value<'a>, Unread>
     ensures read { IfOk result (λ v. IsDocument text.now (value_view v)) }
+    ensures numbers { IfOk result (λ v. HasNumbers (value_view v)) }
     ensures unread { IfErr result (IsUnread text.now) }
 {
     match Value::parse_strict(alloc, text, scratch) {

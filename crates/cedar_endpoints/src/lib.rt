@@ -8,6 +8,7 @@
 //! - `several`, `semantics`: what a document with several evaluations asks, and where it stops. `evaluations`: their
 //!   answers.
 //! - `partials`: what Cedar's own request asks, of which parts may be unknown, and what it is answered.
+//! - `authorized`, `ids`: what Cedar's own request is answered, with the `id` that it has, if it has one.
 //! - `decider`: what decides, as a trait. `service`: the service over HTTP that asks it.
 //! - `lines`: Cedar's own requests, a line each. `reloads`: other policies and entities in place of these.
 //! - `documents`: bodies as JSON. `replies`: the JSON texts that are replied. `answers`: the status, the header fields
@@ -21,10 +22,12 @@
 
 mod answers;
 mod asked;
+mod authorized;
 mod decider;
 mod documents;
 mod evaluations;
 mod found;
+mod ids;
 mod lines;
 mod partials;
 mod reloads;
@@ -38,6 +41,7 @@ mod tokens;
 
 pub use answers::Status;
 pub use asked::{Evaluation, Fault, Keys, Named, Properties, read_evaluation};
+pub use authorized::authorize;
 pub use decider::Decider;
 pub use lines::answer_lines;
 pub use partials::{Entry, Partial, read_partial};

@@ -4,9 +4,9 @@ ghost use Rattle.std.specs.Io.Buffered.{reader_remaining};
 ghost use Rattle.std.specs.Io.KnownBytes.{Keeps};
 ghost use Rattle.cedar_endpoints.specs.Lines.{AreAllAnswered, IsLineStep, IsLineAnswer, WritesAnswer};
 
+use crate::authorized::authorize;
 use crate::decider::Decider;
 use crate::replies::Reply;
-use crate::service::authorize;
 use std::alloc::{AllocError, Global};
 use std::io;
 use std::io::{BufRead, BufReader, ErrorKind, Read, Write};

@@ -1,7 +1,8 @@
-#![tactic(auto, using(crate::proofs::Views::views))]
+#![tactic(auto, using(crate::proofs::Views::views, crate::proofs::Identified::identified))]
 //! What Cedar's own request asks, of which parts may be unknown.
 ghost use Rattle.std.specs.Prelude.{◌≡◌, Ok, Some, IfOk, option_map, codes};
 ghost use Rattle.json.specs.Find.{get};
+ghost use Rattle.json.specs.Tree.{HasNumbers};
 ghost use Rattle.json.specs.Value.{value_view};
 ghost use Rattle.cedar_endpoints.specs.Asked.{told, and_then, text_said};
 ghost use Rattle.cedar_endpoints.specs.Partials as partials;
@@ -9,6 +10,7 @@ ghost use Rattle.cedar_endpoints.specs.Partials as partials;
 use crate::answers::Status;
 use crate::asked::{Fault, Keys, Named, context_of, object_fault, text_in, text_of};
 use crate::decider::Decider;
+use crate::ids::{given_id, put_id};
 use crate::replies::{Remainder, Reply, faulty, plain, refused};
 use json::Value;
 use std::alloc::{AllocError, Global};
@@ -214,17 +216,20 @@ fn known_as<'v>(
 
 // ---- what is replied
 
-/// What is left of the policies for the document's request, which the text writes, or 400 for what is wrong. Refuses
-/// only if out of memory.
+/// What is left of the policies for the document's request, which the text writes, or 400 for what is wrong; with the
+/// request's `id` first, if it has one. Refuses only if out of memory.
 pub(crate) fn answer_partly<D: Decider>(
     alloc: Global,
     decider: &D,
     text: &str,
     value: &Value<'_>,
 ) -> Result<Reply, AllocError>
+    requires { HasNumbers (value_view value.now) }
     ensures { IfOk result (partials.IsPartlyAnswered (D.leaves decider.now) text.now (value_view value.now)) }
 {
-    answer_said(alloc, decider, text, read_partial(value))
+    let id = given_id(alloc, value)?;
+    let reply = answer_said(alloc, decider, text, read_partial(value))?;
+    put_id(alloc, id, reply)
 }
 
 fn answer_said<D: Decider>(

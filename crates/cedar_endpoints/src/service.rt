@@ -3,6 +3,7 @@
 ghost use Rattle.std.specs.Prelude.{◌≡◌, Some, None, IfOk, OnOk, OnErr, option_map, string_bytes};
 ghost use Rattle.http_server.specs.Response.{IsBlank};
 ghost use Rattle.cedar_endpoints.specs.Asked.{fault_view};
+ghost use Rattle.json.specs.Tree.{HasNumbers};
 ghost use Rattle.json.specs.Value.{value_view};
 ghost use Rattle.cedar_endpoints.specs.Documents.{IsRepliedTo, IsReplyUnread, whole};
 ghost use Rattle.cedar_endpoints.specs.Found.{finder_of};
@@ -10,11 +11,11 @@ ghost use Rattle.cedar_endpoints.specs.Answers.{IsSent};
 ghost use Rattle.cedar_endpoints.specs.Answered.{IsAnswered, IsTakenSent, IsUntakenSent};
 ghost use Rattle.cedar_endpoints.specs.Reloads.{replaced_by};
 ghost use Rattle.cedar_endpoints.specs.Served.{reloads_of, asked_route, request_id};
-ghost use Rattle.cedar_endpoints.specs.Served.{offered, IsEvaluated, IsAskedAs, IsAuthorized, IsResponded, IsMetadata};
-ghost use Rattle.cedar_endpoints.specs.Served.{IsReply, IsServed};
+ghost use Rattle.cedar_endpoints.specs.Served.{offered, IsEvaluated, IsAskedAs, IsMetadata, IsReply, IsServed};
 
 use crate::answers::{Status, send};
 use crate::asked::{Fault, read_evaluation};
+use crate::authorized::authorize;
 use crate::decider::Decider;
 use crate::documents::{Unread, parse_json};
 use crate::evaluations::{decide_said, evaluate_all};
@@ -23,7 +24,7 @@ use crate::partials::answer_partly;
 use crate::reloads::{
     Untaken, nothing_here, put_alone, remake, replaced_by, taken_text, unreplaced,
 };
-use crate::replies::{Outcome, Reply, faulty, plain, refused};
+use crate::replies::{Reply, faulty, plain};
 use crate::routes::{Replaced, Route, route_of};
 use crate::searches::Sought;
 use bytes::Bytes;
@@ -332,6 +333,7 @@ fn ask_value<D: Decider>(
     text: &str,
     value: &Value<'_>,
 ) -> Result<Reply, AllocError>
+    requires { HasNumbers (value_view value.now) }
     ensures { IfOk result (IsAskedAs asks (offered
         (D.decides service.now.decider) (D.authorizes service.now.decider) (D.leaves service.now.decider)
         (finder_of (D.finds service.now.decider) (D.version service.now.decider) (D.count service.now.decider)
@@ -356,38 +358,4 @@ fn evaluate_one<D: Decider>(
     ensures { IfOk result (IsEvaluated (D.decides decider.now) (value_view value.now)) }
 {
     decide_said(alloc, decider, read_evaluation(value))
-}
-
-// ---- Cedar's own request
-
-pub(crate) fn authorize<D: Decider>(
-    alloc: Global,
-    decider: &D,
-    body: &[u8],
-) -> Result<Reply, AllocError>
-    ensures { IfOk result (IsAuthorized (D.authorizes decider.now) body.now) }
-{
-    match str::from_utf8(body) {
-        Ok(text) => authorize_text(alloc, decider, text),
-        Err(_) => faulty(alloc, Status::BadRequest, whole("not UTF-8")),
-    }
-}
-
-fn authorize_text<D: Decider>(alloc: Global, decider: &D, text: &str) -> Result<Reply, AllocError>
-    ensures { IfOk result (IsAuthorized (D.authorizes decider.now) text.now) }
-{
-    let outcome = decider.authorize(alloc, text)?;
-    respond_with(alloc, &outcome)
-}
-
-fn respond_with(alloc: Global, outcome: &Outcome) -> Result<Reply, AllocError>
-    ensures { IfOk result (IsResponded outcome.now) }
-{
-    match outcome {
-        Outcome::Decided {
-            is_allowed: _,
-            context,
-        } => plain(alloc, context.as_str()),
-        Outcome::Refused { error } => refused(alloc, Status::BadRequest, error.as_str()),
-    }
 }

@@ -1,6 +1,6 @@
 -- Parts of JSON that is written.
 use Rattle.std.proofs.Common.{◌≡◌, refl, sym, ap, subst, ◌∙◌, Bool, true, false, ℕ, List, [], ◌∷◌, ◌++◌, append_assoc, Option, Some, None}
-use Rattle.std.proofs.Common.{bytes_eq, codes, is_some, arith, ◌+◌}
+use Rattle.std.proofs.Common.{bytes_eq, arith, ◌+◌}
 use Rattle.std.specs.Prelude.{◌≤◌, ⊤, max, if◌then◌else◌, cond}
 use Rattle.std.specs.Borrow.{Bor}
 use Rattle.json.specs.Json.{Json, null, boolean, number, string, array, object, Members, no_members, member}
@@ -10,7 +10,7 @@ use Rattle.json.specs.Value.{members_view, value_view}
 use Rattle.json.specs.declared.value.Value.{Value}
 use Rattle.json.proofs.Numbered.{HasNumbers-get}
 use Rattle.cedar_model.specs.Terms.{Text}
-use Rattle.cedar_service.specs.Documents.{IsWritable, without, without_entities, with_beside}
+use Rattle.cedar_service.specs.Documents.{IsWritable, is_beside, without, without_beside, with_asked}
 use Rattle.cedar_service.specs.Asked.{request_in}
 
 -- ---- without a member
@@ -20,28 +20,28 @@ if_numbers : (b : Bool) (l : Text) (j : Json) (ms : Members) → HasNumbers j �
 if_numbers true l j ms h k = k
 if_numbers false l j ms h k = (h, k)
 
-numbers_without : (k : Text) (ms : Members) → MembersHaveNumbers ms → MembersHaveNumbers (without k ms)
-numbers_without k no_members h = h
-numbers_without k (member l j ms) h = if_numbers (bytes_eq l k) l j (without k ms) h.0 (numbers_without k ms h.1)
+numbers_without : (ms : Members) → MembersHaveNumbers ms → MembersHaveNumbers (without ms)
+numbers_without no_members h = h
+numbers_without (member l j ms) h = if_numbers (is_beside l) l j (without ms) h.0 (numbers_without ms h.1)
 
 if_depth : (b : Bool) (l : Text) (j : Json) (ms : Members) (n : ℕ) → members_depth ms ≤ n
     → members_depth (if b then ms else member l j ms) ≤ max (depth j) n
 if_depth true l j ms n h = omega arith
 if_depth false l j ms n h = omega arith
 
-depth_without : (k : Text) (ms : Members) → members_depth (without k ms) ≤ members_depth ms
-depth_without k no_members = omega arith
-depth_without k (member l j ms) = if_depth (bytes_eq l k) l j (without k ms) (members_depth ms) (depth_without k ms)
+depth_without : (ms : Members) → members_depth (without ms) ≤ members_depth ms
+depth_without no_members = omega arith
+depth_without (member l j ms) = if_depth (is_beside l) l j (without ms) (members_depth ms) (depth_without ms)
 
-pub writable_without : (j : Json) → IsWritable j → IsWritable (without_entities j)
+pub writable_without : (j : Json) → IsWritable j → IsWritable (without_beside j)
 writable_without null h = h
 writable_without (boolean b) h = h
 writable_without (number n) h = h
 writable_without (string t) h = h
 writable_without (array js) h = h
 writable_without (object ms) h = record {
-  numbers = numbers_without (codes "entities") ms h.numbers;
-  nests = let less = depth_without (codes "entities") ms in let within = h.nests in omega arith;
+  numbers = numbers_without ms h.numbers;
+  nests = let less = depth_without ms in let within = h.nests in omega arith;
 }
 
 -- ---- a member
@@ -79,9 +79,9 @@ writable_member k (object ms) part h is = record {
 
 -- ---- members one by one
 
-abbrev pub kept : {A : Type 0} → Text → List (Bor (List ℕ) × Value A) → List (Bor (List ℕ) × Value A)
-kept k [] = []
-kept k (m ∷ ms) = if bytes_eq m.0.now k then kept k ms else (m ∷ kept k ms)
+abbrev pub kept : {A : Type 0} → List (Bor (List ℕ) × Value A) → List (Bor (List ℕ) × Value A)
+kept [] = []
+kept (m ∷ ms) = if is_beside m.0.now then kept ms else (m ∷ kept ms)
 
 if_kept : {A : Type 0} (b : Bool) (m : Bor (List ℕ) × Value A) (ms : List (Bor (List ℕ) × Value A)) (ns : Members)
     → members_view ms ≡ ns
@@ -89,29 +89,28 @@ if_kept : {A : Type 0} (b : Bool) (m : Bor (List ℕ) × Value A) (ms : List (Bo
 if_kept true m ms ns h = h
 if_kept false m ms ns h = ap (member m.0.now (value_view m.1)) h
 
-pub kept_view : {A : Type 0} (k : Text) (ms : List (Bor (List ℕ) × Value A))
-    → members_view (kept k ms) ≡ without k (members_view ms)
-kept_view k [] = refl
-kept_view k (m ∷ ms) = if_kept (bytes_eq m.0.now k) m (kept k ms) (without k (members_view ms)) (kept_view k ms)
+pub kept_view : {A : Type 0} (ms : List (Bor (List ℕ) × Value A)) → members_view (kept ms) ≡ without (members_view ms)
+kept_view [] = refl
+kept_view (m ∷ ms) = if_kept (is_beside m.0.now) m (kept ms) (without (members_view ms)) (kept_view ms)
 
 if_step : {A : Type 0} (b : Bool) (m : Bor (List ℕ) × Value A) (done left : List (Bor (List ℕ) × Value A))
     → (if b then done else (done ++ m ∷ [])) ++ left ≡ done ++ (if b then left else (m ∷ left))
 if_step true m done left = refl
 if_step false m done left = append_assoc done (m ∷ []) left
 
-pub one_kept : {A : Type 0} (k : Text) (all done left rest after : List (Bor (List ℕ) × Value A))
-    (m : Bor (List ℕ) × Value A) → left ≡ m ∷ rest → after ≡ with_beside k done m → done ++ kept k left ≡ kept k all
-    → after ++ kept k rest ≡ kept k all
-one_kept k all done left rest after m is more h =
-    ap (λ ms. ms ++ kept k rest) more ∙ if_step (bytes_eq m.0.now k) m done (kept k rest)
-    ∙ ap (λ ms. done ++ kept k ms) (sym is) ∙ h
+pub one_kept : {A : Type 0} (all done left rest after : List (Bor (List ℕ) × Value A))
+    (m : Bor (List ℕ) × Value A) → left ≡ m ∷ rest → after ≡ with_asked done m → done ++ kept left ≡ kept all
+    → after ++ kept rest ≡ kept all
+one_kept all done left rest after m is more h =
+    ap (λ ms. ms ++ kept rest) more ∙ if_step (is_beside m.0.now) m done (kept rest)
+    ∙ ap (λ ms. done ++ kept ms) (sym is) ∙ h
 
 -- ---- the JSON of a request
 
-pub request_beside : (o : Option Json) (j : Json) → is_some o ≡ true → request_in o j ≡ without_entities j
-request_beside None j h = absurd (cc)
-request_beside (Some m) j h = refl
+pub request_beside : (b : Bool) (j : Json) → b ≡ true → request_in b j ≡ without_beside j
+request_beside true j h = refl
+request_beside false j h = absurd (cc)
 
-pub request_alone : (o : Option Json) (j : Json) → is_some o ≡ false → request_in o j ≡ j
-request_alone None j h = refl
-request_alone (Some m) j h = absurd (cc)
+pub request_alone : (b : Bool) (j : Json) → b ≡ false → request_in b j ≡ j
+request_alone true j h = absurd (cc)
+request_alone false j h = refl

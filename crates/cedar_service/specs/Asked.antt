@@ -1,5 +1,5 @@
 -- Which request an evaluation asks, and why it asks none.
-use Rattle.std.specs.Prelude.{IsSomeAnd, ◌≡◌, ⊤, Bool, true, false, Option, Some, None, Ok, Err, codes}
+use Rattle.std.specs.Prelude.{IsSomeAnd, ◌≡◌, ◌||◌, ⊤, Bool, true, false, Option, Some, None, Ok, Err, is_some, codes}
 use Rattle.json.specs.Find.{get}
 use Rattle.json.specs.Json.{Json, object, member, no_members, string, document}
 use Rattle.cedar_model.specs.Terms.{Text, EntityName, Term}
@@ -23,7 +23,7 @@ use Rattle.cedar_json_reader.specs.SaidContexts.{context_said, IsContextOf}
 use Rattle.cedar_json_reader.specs.SaidRequests.{IsRequestOf, IsRequestRefusal}
 use Rattle.cedar_json_reader.specs.declared.errors.JsonError.{JsonError}
 use Rattle.cedar_endpoints.specs.Asked.{Evaluation, Named}
-use Rattle.cedar_service.specs.Documents.{IsTextFor, without_entities}
+use Rattle.cedar_service.specs.Documents.{IsTextFor, without_beside}
 use Rattle.cedar_service.specs.Faults.{IsFault, IsFaultBelow, IsOfJson}
 pub use Rattle.cedar_service.specs.Levels.{levels}
 
@@ -89,19 +89,23 @@ pub data IsUnasked (X : world.Extensions) (calls : StoredCalls) (q : Evaluation)
 
 -- ---- Cedar's own request
 
--- the JSON of a request, but for the entities that it brings, if it brings some
-abbrev pub request_in : Option Json → Json → Json
-request_in None j = j
-request_in (Some es) j = without_entities j
+-- whether a request brings entities, or has an id
+abbrev pub has_beside : Json → Bool
+has_beside j = is_some (get (codes "entities") j) || is_some (get (codes "id") j)
+
+-- the JSON of a request, but for these
+abbrev pub request_in : Bool → Json → Json
+request_in false j = j
+request_in true j = without_beside j
 
 abbrev pub request_json : Json → Json
-request_json j = request_in (get (codes "entities") j) j
+request_json j = request_in (has_beside j) j
 
--- the second text is that of the first, but for the entities that it brings
+-- the second text is that of the first, but for the entities that it brings and its id
 abbrev pub IsRequestText : Text → Text → Type 0
 IsRequestText text t = IsSomeAnd (document text) (λ j. IsTextFor (request_json j) t)
 
--- the request that a text says which brings no entities
+-- the request that a text says which brings no entities and has no id
 abbrev pub IsSaidBy : world.Extensions → StoredCalls → Text → Request → Type 0
 IsSaidBy X calls text r = SaysSo text (λ j. IsRequestOf X calls levels j r)
 
@@ -112,7 +116,7 @@ pub record IsUnsaidBy (X : world.Extensions) (calls : StoredCalls) (text : Text)
   pub refused : IsTextError text (λ j e. IsRequestRefusal X calls levels j e) error
   pub told : IsFaultBelow (codes "$") t
 
--- the request that the text says, beside the entities that it brings
+-- the request that the text says, beside the entities that it brings and its id
 abbrev pub IsSaid : world.Extensions → StoredCalls → Text → Request → Type 0
 IsSaid X calls text r = (t : Text) × IsRequestText text t × IsSaidBy X calls t r
 
@@ -147,9 +151,9 @@ uid_json n =
     (object (member (codes "type") (string n.type_name) (member (codes "id") (string n.id) no_members)))
     no_members)
 
--- the request that the JSON says beside entities, or why it says none
+-- the request that the JSON says beside entities and an id, or why it says none
 abbrev pub IsSaidBeside : world.Extensions → StoredCalls → Json → Request → Type 0
-IsSaidBeside X calls j r = (t : Text) × IsTextFor (without_entities j) t × IsSaidBy X calls t r
+IsSaidBeside X calls j r = (t : Text) × IsTextFor (without_beside j) t × IsSaidBy X calls t r
 
 abbrev pub IsUnsaidBeside : world.Extensions → StoredCalls → Json → Text → Type 0
-IsUnsaidBeside X calls j s = (t : Text) × IsTextFor (without_entities j) t × IsUnsaidBy X calls t s
+IsUnsaidBeside X calls j s = (t : Text) × IsTextFor (without_beside j) t × IsUnsaidBy X calls t s

@@ -1,5 +1,5 @@
 -- JSON documents, and texts of their parts.
-use Rattle.std.specs.Prelude.{◌≡◌, ◌≤◌, ◌++◌, ◌∷◌, [], ℕ, List, if◌then◌else◌, Some, bytes_eq, codes}
+use Rattle.std.specs.Prelude.{◌≡◌, ◌≤◌, ◌++◌, ◌∷◌, ◌||◌, [], ℕ, Bool, List, if◌then◌else◌, Some, bytes_eq, codes}
 use Rattle.std.specs.Borrow.{Bor}
 use Rattle.json.specs.Json.{Json, null, boolean, number, string, array, object, Members, no_members, member, document, max_depth}
 use Rattle.json.specs.Strict.{HasUniqueKeys}
@@ -21,20 +21,24 @@ pub record IsReadAs (text : Text) (j : Json) : Type 0 where
 abbrev pub IsTextFor : Json → Text → Type 0
 IsTextFor j t = document t ≡ Some j
 
--- the members but those of this key
-abbrev pub without : Text → Members → Members
-without k no_members = no_members
-without k (member l j ms) = if bytes_eq l k then without k ms else member l j (without k ms)
+-- what stands in a request beside what it asks: entities that it brings, and an id
+abbrev pub is_beside : Text → Bool
+is_beside k = bytes_eq k (codes "entities") || bytes_eq k (codes "id")
 
--- the JSON but for its member `entities`
-abbrev pub without_entities : Json → Json
-without_entities null = null
-without_entities (boolean b) = boolean b
-without_entities (number n) = number n
-without_entities (string t) = string t
-without_entities (array js) = array js
-without_entities (object ms) = object (without (codes "entities") ms)
+-- the members but for these
+abbrev pub without : Members → Members
+without no_members = no_members
+without (member l j ms) = if is_beside l then without ms else member l j (without ms)
 
--- the members, and this one behind them unless it is of this key; for private clauses
-abbrev pub with_beside : {V : Type 0} → Text → List (Bor (List ℕ) × V) → Bor (List ℕ) × V → List (Bor (List ℕ) × V)
-with_beside k ms m = if bytes_eq m.0.now k then ms else (ms ++ m ∷ [])
+-- the JSON but for such members
+abbrev pub without_beside : Json → Json
+without_beside null = null
+without_beside (boolean b) = boolean b
+without_beside (number n) = number n
+without_beside (string t) = string t
+without_beside (array js) = array js
+without_beside (object ms) = object (without ms)
+
+-- the members, and this one behind them unless it is such a one; for private clauses
+abbrev pub with_asked : {V : Type 0} → List (Bor (List ℕ) × V) → Bor (List ℕ) × V → List (Bor (List ℕ) × V)
+with_asked ms m = if is_beside m.0.now then ms else (ms ++ m ∷ [])

@@ -1,8 +1,8 @@
 //! JSON documents, and texts of their parts.
-ghost use Rattle.std.specs.Prelude.{◌≡◌, ◌∷◌, [], ◌++◌, IfOk, IfErr, OnOk, codes, string_bytes};
+ghost use Rattle.std.specs.Prelude.{◌≡◌, ◌∷◌, [], ◌++◌, IfOk, IfErr, OnOk, string_bytes};
 ghost use Rattle.json.specs.Value.{value_view, members_view};
 ghost use Rattle.cedar_json_reader.specs.JsonTexts.{IsUnread};
-ghost use Rattle.cedar_service.specs.Documents.{IsReadAs, IsWritable, IsTextFor, without, without_entities, with_beside};
+ghost use Rattle.cedar_service.specs.Documents.{IsReadAs, IsWritable, IsTextFor, without, without_beside, with_asked, is_beside};
 
 use cedar_fallible::add_last;
 use cedar_json_reader::JsonError;
@@ -39,10 +39,10 @@ pub(crate) fn text_of(alloc: Global, value: &Value<'_>) -> Result<String, AllocE
     }
 }
 
-/// A text that is this JSON but for its member `entities`.
+/// A text that is this JSON but for its members `entities` and `id`.
 pub(crate) fn rest_text(alloc: Global, value: Value<'_>) -> Result<String, AllocError>
     requires { IsWritable (value_view value) }
-    ensures { IfOk result (λ s. IsTextFor (without_entities (value_view value.entry)) (string_bytes s)) }
+    ensures { IfOk result (λ s. IsTextFor (without_beside (value_view value.entry)) (string_bytes s)) }
 {
     let rest = rest_of(alloc, value)?;
     let text = text_of(alloc, &rest);
@@ -51,10 +51,10 @@ pub(crate) fn rest_text(alloc: Global, value: Value<'_>) -> Result<String, Alloc
 }
 
 fn rest_of<'a>(alloc: Global, value: Value<'a>) -> Result<Value<'a>, AllocError>
-    ensures { IfOk result (λ v. value_view v ≡ without_entities (value_view value.entry)) }
+    ensures { IfOk result (λ v. value_view v ≡ without_beside (value_view value.entry)) }
 {
     match value {
-        Value::Object(members) => Ok(Value::Object(members_beside(alloc, members)?)),
+        Value::Object(members) => Ok(Value::Object(members_asked(alloc, members)?)),
         Value::Null => Ok(Value::Null),
         Value::Bool(flag) => Ok(Value::Bool(flag)),
         Value::Number(number) => Ok(Value::Number(number)),
@@ -63,32 +63,38 @@ fn rest_of<'a>(alloc: Global, value: Value<'a>) -> Result<Value<'a>, AllocError>
     }
 }
 
-// The members but for `entities`.
-fn members_beside<'a>(
+// The members but for `entities` and `id`.
+fn members_asked<'a>(
     alloc: Global,
     members: Vec<(&'a str, Value<'a>)>,
 ) -> Result<Vec<(&'a str, Value<'a>)>, AllocError>
     ensures { IfOk result (λ ms.
-        members_view ms.items ≡ without (codes "entities") (members_view members.entry.items)) }
+        members_view ms.items ≡ without (members_view members.entry.items)) }
 {
     let mut rest: Vec<(&'a str, Value<'a>)> = Vec::new(alloc);
     'members: for member in members {
-        put_beside(member, &mut rest)?;
+        put_asked(member, &mut rest)?;
     }
     Ok(rest)
 }
 
-// Puts the member behind those that are there, unless it is `entities`.
-fn put_beside<'a>(
+// Puts the member behind those that are there, unless it is `entities` or `id`.
+fn put_asked<'a>(
     member: (&'a str, Value<'a>),
     rest: &mut Vec<(&'a str, Value<'a>)>,
 ) -> Result<(), AllocError>
-    ensures { OnOk result (rest.new.items ≡ with_beside (codes "entities") rest.old.items member.entry) }
+    ensures { OnOk result (rest.new.items ≡ with_asked rest.old.items member.entry) }
 {
-    if member.0 == "entities" {
+    if is_beside(member.0) {
         drop(member);
         Ok(())
     } else {
         add_last(rest, member)
     }
+}
+
+fn is_beside(key: &str) -> bool
+    ensures { result ≡ is_beside key.now }
+{
+    key == "entities" || key == "id"
 }

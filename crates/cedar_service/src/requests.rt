@@ -1,18 +1,17 @@
 #![tactic(auto, using(crate::proofs::Held::held))]
 //! The request that is asked.
-ghost use Rattle.std.specs.Prelude.{◌≡◌, Ok, IfOk, IfErr, codes, is_some};
+ghost use Rattle.std.specs.Prelude.{◌≡◌, Ok, IfOk, IfErr};
 ghost use Rattle.cedar_extensions.specs.Extensions.{extensions_view, calls_of};
 ghost use Rattle.cedar_names.specs.Names.{uid_name};
 ghost use Rattle.cedar_model.specs.Settings.{known_entry};
 ghost use Rattle.cedar_requests.specs.Contexts.{context_view};
 ghost use Rattle.cedar_requests.specs.Requests.{request_view};
 ghost use Rattle.cedar_endpoints.specs.Asked.{evaluation_view, named_view};
-ghost use Rattle.json.specs.Find.{get};
 ghost use Rattle.json.specs.Value.{value_view};
 ghost use Rattle.cedar_service.specs.Documents.{IsReadAs, IsWritable};
 ghost use Rattle.cedar_service.specs.Asked.{IsAsked, IsUnasked, AreUnnamed, IsSaid, IsUnsaid};
 ghost use Rattle.cedar_service.specs.Asked.{IsSaidBy, IsUnsaidBy, IsSaidBeside, IsUnsaidBeside};
-ghost use Rattle.cedar_service.specs.Asked.{entity_said, action_named, has_known_context, is_known_part};
+ghost use Rattle.cedar_service.specs.Asked.{entity_said, action_named, has_beside, has_known_context, is_known_part};
 ghost use Rattle.cedar_service.specs.Faults.{IsToldAs};
 
 use crate::contexts::{LEVELS, context_of};
@@ -158,8 +157,8 @@ fn request_with(entities: Entities, context: Context) -> Request
     Request::of(principal, action, resource, context)
 }
 
-/// The request that the text says, which is this JSON, in Cedar's JSON, but for the entities that it brings. Refuses what
-/// says none, and a context that does not evaluate.
+/// The request that the text says, which is this JSON, in Cedar's JSON, but for the entities that it brings and its id.
+/// Refuses what says none, and a context that does not evaluate.
 pub(crate) fn request_said(
     alloc: Global,
     text: &str,
@@ -171,7 +170,7 @@ pub(crate) fn request_said(
     ensures refused { IfErr result (IsToldAs
         (IsUnsaid (extensions_view extensions.now) (calls_of extensions.now) text.now)) }
 {
-    if brings_entities(&value) {
+    if has_beside(&value) {
         said_beside(alloc, value, extensions)
     } else {
         drop(value);
@@ -179,10 +178,11 @@ pub(crate) fn request_said(
     }
 }
 
-fn brings_entities(value: &Value<'_>) -> bool
-    ensures { result ≡ is_some (get (codes "entities") (value_view value.now)) }
+// Whether it brings entities, or has an id.
+fn has_beside(value: &Value<'_>) -> bool
+    ensures { result ≡ has_beside (value_view value.now) }
 {
-    value.get("entities").is_some()
+    value.get("entities").is_some() || value.get("id").is_some()
 }
 
 // The request that the text says.
@@ -201,7 +201,7 @@ fn said_by(alloc: Global, text: &str, extensions: &Extensions<'_>) -> Result<Req
     }
 }
 
-// The request that the JSON says beside entities.
+// The request that the JSON says beside entities and an id.
 fn said_beside(
     alloc: Global,
     value: Value<'_>,
