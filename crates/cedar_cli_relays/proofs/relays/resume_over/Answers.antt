@@ -20,9 +20,9 @@ returns-in_err-stages-clause-refused g c =
     let s = c.args.store.now.entities in
     let steps = c.args.steps.now in
     let w = c.args.way in
-    handed_up c.from_residual-in_err-stages.result _
+    handed_up c.from_residual.result _
     (IsToldFor (AreNotTakenFrom (configuration_as (extensions_view x) (calls_of x) r w) r s steps))
-    c.from_residual-in_err-stages.ensures.1
+    c.from_residual.ensures.1
     (subst (λ (d : Configuration). IsToldFor (AreNotTakenFrom d r s steps) c.in_err-stages.field-0.0)
     (λ i. configured (calls_of x) (c.error_handling.ensures i) shallow (extensions_view x) (levels_in w.limit))
     c.in_err-stages.ensures.refused)
@@ -47,8 +47,8 @@ returns-clause-answered g c =
           (λ i. configured (calls_of x) (c.error_handling.ensures i) shallow (extensions_view x) (levels_in w.limit))
           c.in_ok-stages.ensures.taken;
       no_policies = h.0;
-      none_are = h.1.0;
+      none_are = h.1;
       saved = subst (λ (f : PartialResponse). ArePrintedAndSaved (names_of x) text h.0 w.is_json f later p)
-          c.in_ok-stages.ensures.first h.1.1;
+          c.in_ok-stages.ensures.first h.2;
     })
     c.print_without_policies-saved.result c.print_without_policies-saved.ensures.saved
