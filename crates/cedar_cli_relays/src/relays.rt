@@ -179,7 +179,12 @@ pub fn resume(
         line.entry.text.now asked.now steps.now way)) }
 {
     match response_of_line(alloc, line, extensions) {
-        Ok(response) => resume_response(alloc, line, response, asked, steps, way, extensions),
+        Ok(response) => {
+            match resume_response(alloc, line, response, asked, steps, way, extensions) {
+                Ok(saved) => Ok(saved),
+                Err(refusal) => Err(refusal),
+            }
+        }
         Err(refusal) => Err(refusal),
     }
 }
@@ -205,7 +210,10 @@ fn resume_response(
                 alloc, line, response, &store, steps, way, extensions, warnings,
             );
             drop(store);
-            saved
+            match saved {
+                Ok(saved) => Ok(saved),
+                Err(refusal) => Err(refusal),
+            }
         }
         Err(refusal) => {
             drop(response);
@@ -234,7 +242,7 @@ fn resume_over(
         error_handling: response.error_handling(),
         ..way
     };
-    let stages = stages_from(
+    match stages_from(
         alloc,
         response,
         store,
@@ -242,10 +250,20 @@ fn resume_over(
         way,
         extensions,
         &mut warnings,
-    )?;
-    let saved = print_without_policies(alloc, line, way, &stages, extensions, warnings);
-    drop(stages);
-    saved
+    ) {
+        Ok(stages) => {
+            let saved = print_without_policies(alloc, line, way, &stages, extensions, warnings);
+            drop(stages);
+            match saved {
+                Ok(saved) => Ok(saved),
+                Err(refusal) => Err(refusal),
+            }
+        }
+        Err(refusal) => {
+            drop(warnings);
+            Err(refusal)
+        }
+    }
 }
 
 // The text of the policies is not there: they are called as the response calls them.
@@ -265,7 +283,10 @@ fn print_without_policies(
         Ok(none) => {
             let saved = print_and_save(alloc, line, &none, way, stages, extensions, warnings);
             drop(none);
-            Ok(saved?)
+            match saved {
+                Ok(saved) => Ok(saved),
+                Err(AllocError) => Err(Refusal::Memory),
+            }
         }
         Err(error) => {
             drop(error);

@@ -17,7 +17,7 @@ returns-clause-answered g c =
     let w = c.args.way in
     of_ok (IsSavedBy (extensions_view x) (calls_of x) (names_of x) text parsed.policies q steps w)
     (IsSaved (extensions_view x) (calls_of x) (names_of x) (these (signatures_of x)) text q steps w)
-    (λ p h. record { parsed = parsed; policies_are = c.in_ok-parsed.ensures.read; by = h })
+    (λ s h. record { parsed = parsed; policies_are = c.in_ok-parsed.ensures.read; by = h })
     c.save_parsed-saved.result c.save_parsed-saved.ensures.answered
 
 pub returns-clause-refused : goal.returns-clause-refused
