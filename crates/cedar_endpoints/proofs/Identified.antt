@@ -2,7 +2,6 @@
 use Rattle.std.proofs.Common.{◌≡◌, refl, sym, ap, ◌∙◌, ℕ, ◌==◌, Bool, true, false, List, [], ◌∷◌, ◌++◌, Option, None, Some, option_map, option_copied, MatchOption, Result, Ok, Err, IfOk, String, string_bytes, codes, if◌then◌else◌, eqb-true, ◌≢◌}
 use Rattle.std.specs.Borrow.{Bor}
 use Rattle.std.specs.Str.Pattern.{FindsTextPrefix, StripsPrefix}
-use Rattle.std.specs.declared.alloc.AllocError.{AllocError}
 use Rattle.json.specs.Json.{Json}
 use Rattle.json.specs.Find.{get}
 use Rattle.json.specs.Tree.{HasNumbers}
@@ -25,11 +24,11 @@ id_of_unread text unreads.Syntax id is none = is_unread is none
 id_of_unread text unreads.DuplicateKey id is none = is_repeated is none
 id_of_unread text unreads.Memory id is none = absurd none
 
-pub as_id_unread : (text : Text) (o : Result (Option String) AllocError) (u : Unread) → IsUnread text u
+pub as_id_unread : {A E : Type 0} (text : Text) (o : Result (Option (String A)) E) (u : Unread) → IsUnread text u
     → IfOk o (λ i. IsIdUnread u (option_map string_bytes i)) → IfOk o (λ i. IsIdIn text (option_map string_bytes i))
 as_id_unread text o u is h = of_ok _ _ (λ i none. id_of_unread text u (option_map string_bytes i) is none) o h
 
-pub as_id_said : (text : Text) (o : Result (Option String) AllocError) (j : Json) → IsDocument text j
+pub as_id_said : {A E : Type 0} (text : Text) (o : Result (Option (String A)) E) (j : Json) → IsDocument text j
     → IfOk o (λ i. option_map string_bytes i ≡ given_id j) → IfOk o (λ i. IsIdIn text (option_map string_bytes i))
 as_id_said text o j is h = of_ok _ _ (λ i same. is_said is same) o h
 

@@ -1,8 +1,8 @@
 use Rattle.std.proofs.Common.{Option, subst, option_map, string_bytes}
 use Rattle.json.specs.Value.{value_view}
-use Rattle.cedar_endpoints.specs.Asked.{Text}
+use Rattle.cedar_endpoints.specs.Asked.{Text, Said}
 use Rattle.cedar_endpoints.specs.Ids.{with_id}
-use Rattle.cedar_endpoints.specs.Partials.{IsPartlyAnswered}
+use Rattle.cedar_endpoints.specs.Partials.{Partial, IsLeft, IsPartlyAnswered}
 use Rattle.cedar_endpoints.specs.Replies.{Replies}
 use Rattle.cedar_endpoints.proofs.Texts.{of_ok}
 use Rattle.cedar_endpoints.proofs.partials.answer_partly.Goals as goal
@@ -15,6 +15,7 @@ returns g c =
     (IsPartlyAnswered (g.D.Decider.leaves c.args.decider.now) c.args.text.now (value_view c.args.value.now))
     (λ r h. record {
       due = due;
-      is_due = c.in_ok-reply.ensures;
+      is_due = subst (λ (s : Said Partial). IsLeft (g.D.Decider.leaves c.args.decider.now) c.args.text.now s due)
+          c.read_partial.ensures c.in_ok-reply.ensures;
       is_put = subst (λ (i : Option Text). Replies due.status (with_id i (string_bytes due.body)) r) c.in_ok-id.ensures h;
     }) c.put_id.result c.put_id.ensures
