@@ -444,8 +444,9 @@ PARTIAL = [
 class World:
     """Policies and entities, of which a request may bring more."""
 
-    def __init__(self, policies, entities):
+    def __init__(self, policies, entities, action_type="Action"):
         self.texts, self.policies, self.entities = (policies, entities), reads(policies.decode()), json.loads(entities)
+        self.action_type = action_type
         self.version, self.candidates = version_of(policies, entities), candidates_of(self.policies, entities)
 
     def store(self, given=(), brought=(), wins=False):
@@ -460,8 +461,8 @@ class World:
                 found[0]["attrs"].update(properties)
         return json_texts.Store(json_texts.document(compact(out).encode()))
 
-    def response(self, principal, action, resource, context, **more):
-        three = [("entity", *it) for it in (principal, ("Action", action), resource)]
+    def response(self, principal, action, resource, context, action_type=None, **more):
+        three = [("entity", *it) for it in (principal, (action_type or self.action_type, action), resource)]
         about = json_texts.context(json_texts.document(compact(context).encode()))
         allowed, reasons, erring = decided(self.policies, self.store(**more), three + [about])
         return {"decision": "allow" if allowed else "deny", "reason": [f"policy{n}" for n in reasons],
@@ -470,7 +471,7 @@ class World:
     def evaluated(self, body, wins=False):
         """What is due to an evaluation that is decided, with the properties of its parts."""
         subject, action, resource = ((body[k]["type"], body[k]["id"]) if k != "action" else body[k]["name"] for k in ("subject", "action", "resource"))
-        given = [(uid, body[k].get("properties", {})) for uid, k in ((subject, "subject"), (("Action", action), "action"), (resource, "resource"))]
+        given = [(uid, body[k].get("properties", {})) for uid, k in ((subject, "subject"), ((self.action_type, action), "action"), (resource, "resource"))]
         r = self.response(subject, action, resource, body.get("context", {}), given=given, wins=wins)
         return {"decision": r["decision"] == "allow", "context": r}
 
@@ -479,7 +480,7 @@ class World:
 
     def page(self, part, body, after):
         """What is found of a search behind so many candidates, and where the next page begins."""
-        type_name = "Action" if part == "action" else body[part]["type"]
+        type_name = self.action_type if part == "action" else body[part]["type"]
         found, place = [], after
         while place < len(self.candidates):
             if len(found) == PAGE_SIZE:
@@ -504,7 +505,7 @@ class World:
     def authorizes(self, what, body):
         """Cedar's request, with entities, of which each part is a type and an id."""
         parts = [(body[k]["type"], body[k]["id"]) for k in ("principal", "action", "resource")]
-        r = self.response(parts[0], parts[1][1], parts[2], body["context"], brought=body.get("entities", ()))
+        r = self.response(parts[0], parts[1][1], parts[2], body["context"], parts[1][0], brought=body.get("entities", ()))
         return (what, request("POST", AUTHORIZE, body), due(200, r, of=self.version))
 
 
@@ -697,6 +698,20 @@ LABELLED = [
     ("an id alone", request("POST", AUTHORIZE, {"id": 1}), due(400, {"id": 1, "error": {"path": "$.principal", "reason": "missing"}})),
     ("an id within", request("POST", AUTHORIZE, [{"id": 1}]), wrong("$", "not an object")),
     ("an id of an evaluation", request("POST", EVALUATION, GOOD | {"id": 1}), wrong("$", "an unexpected member")),
+]
+
+
+# With `--action-type Api::Act`: over policies of which most name actions of this type, and two of the other.
+TYPED = World(read("documents.cedar").replace(b'Action::"', b'Api::Act::"') + b'permit(principal, action == Action::"copy", resource);', read("documents.json"), "Api::Act")
+TYPES = [
+    *(TYPED.evaluates(f"{subject[1]} does {action} with {resource[1]}", evaluation(subject, action, resource, {"hour": 9}))
+      for subject in (ANN, BOB) for action in ("read", "print", "delete", "copy") for resource in (PLAN, VAULT, MENU)),
+    TYPED.evaluates("a property of an action", by(ANN, "read", PLAN, of_action={"a": 1})),
+    *TYPED.pages("what ann may do, by their names", "action", {"subject": said(ANN), "resource": said(PLAN)}),
+    *TYPED.pages("what bob may do", "action", {"subject": said(BOB), "resource": said(PLAN), "context": {"hour": 9}}),
+    *TYPED.pages("what bob may print", "resource", {"subject": said(BOB), "action": {"name": "print"}, "resource": {"type": "Document"}, "context": {"hour": 9}}),
+    TYPED.authorizes("Cedar's request names its own type", with_entities(ANN, PLAN) | {"action": {"type": "Api::Act", "id": "read"}}),
+    TYPED.authorizes("and is asked of that", with_entities(ANN, PLAN)),
 ]
 
 
@@ -1000,6 +1015,17 @@ def run(program):
     for what, last, ends in LAST:
         check(what, [request("POST", EVALUATION, GOOD) + last], due(200, GOOD_DUE) + ends)
     check("the request wins", [it[1] for it in WINNING], b"".join(it[2] for it in WINNING), [*options(), "--request-attributes-win"])
+    with tempfile.TemporaryDirectory() as folder:
+        typed = os.path.join(folder, "typed.cedar")
+        with open(typed, "wb") as it:
+            it.write(TYPED.texts[0])
+        words = ["--policies", typed, *options()[2:]]
+        for name in ("Api::Act", " Api :: Act // the same"):
+            check(f"actions of the type {name!r}", [it[1] for it in TYPES], b"".join(it[2] for it in TYPES), [*words, "--action-type", name])
+    for name in ("", "a b", "a::", 'A::"b"', "if", "a\u202eb"):
+        ended = subprocess.run([program, *options(), "--action-type", name], cwd=f"{CRATE}/data", stdin=subprocess.DEVNULL, capture_output=True)
+        if (ended.returncode, ended.stdout) != (2, b"") or not ended.stderr.startswith(b"--action-type: ") or b"\u202e".decode("unicode_escape").encode() in ended.stderr:
+            faults.append(f"the type {name!r}: {ended}")
     with tempfile.TemporaryDirectory() as folder:
         log = os.path.join(folder, "log")
         for number in (1, 2):

@@ -10,6 +10,7 @@ use Rattle.cedar_service.specs.declared.engine.NotStarted.{NotStarted}
 use Rattle.cedar_endpoints.specs.Lines.{Known, AreAllAnswered}
 use Rattle.cedar_service.specs.Decided.{IsAuthorized}
 use Rattle.cedar_service.specs.Loaded.{Texts, both_texts, engine_of, IsLoadedOf}
+use Rattle.cedar_service.specs.Ways.{Ways}
 use Rattle.cedar_service.specs.Serving.{AreAnswered}
 use Rattle.cedar_serve.specs.declared.serving.Stopped.{Stopped}
 use Rattle.cedar_serve.specs.declared.serving.Stopped.TheVariants as stopped
@@ -25,16 +26,16 @@ pub record IsServedBy (s : Decisions Loaded) (config : Config) (h : History) : T
   pub sent : ∥ IsServed config h ∥₁
 
 -- The same of a service that decides as the policies and the entities do that these texts say, and tells where it is,
--- if that is given; whose pages have so many at most; which takes others in their place, or does not; and where the
--- attributes of a request stand instead of those that are stored, or not.
-pub record IsServedFrom (policies entities : Text) (url : Option Text) (page : ℕ) (allows wins : Bool) (config : Config)
+-- if that is given; whose pages have so many at most; which takes others in their place, or does not; and takes
+-- evaluations so.
+pub record IsServedFrom (policies entities : Text) (url : Option Text) (page : ℕ) (allows : Bool) (w : Ways) (config : Config)
     (h : History) : Type 0 where
   pub service : Decisions Loaded
   pub last : Decisions Loaded
   pub metadata : option_map string_bytes service.metadata ≡ option_map metadata_text url
   pub page_is : service.page ≡ page
   pub reload_is : service.allows_reload ≡ allows
-  pub answered : AreAnswered (both_texts policies entities wins) service h.calls last
+  pub answered : AreAnswered (both_texts policies entities w) service h.calls last
   pub sent : ∥ IsServed config h ∥₁
 
 -- ---- how it ends
@@ -48,9 +49,9 @@ IfServed Is (Err (stopped.Broken e)) = (h : History) × Is h
 -- ---- lines
 
 -- each line is answered as the policies and the entities decide that these texts say, and nothing else is written
-pub record AreAnsweredFrom (policies entities : Text) (wins : Bool) (reader writer last : Known) : Type 0 where
+pub record AreAnsweredFrom (policies entities : Text) (w : Ways) (reader writer last : Known) : Type 0 where
   pub loaded : Loaded
-  pub is_of : IsLoadedOf (both_texts policies entities wins) loaded
+  pub is_of : IsLoadedOf (both_texts policies entities w) loaded
   pub all : AreAllAnswered (IsAuthorized (engine_of loaded)) reader writer last
 
 -- if nothing was started, this is so of the reason

@@ -11,6 +11,7 @@ use Rattle.cedar_logged_lines.specs.Lines.{AreAllLogged}
 use Rattle.cedar_service.specs.Decided.{IsAuthorized}
 use Rattle.cedar_service.specs.declared.loaded.Loaded.{Loaded}
 use Rattle.cedar_service.specs.Loaded.{Texts, both_texts, engine_of, IsLoadedOf}
+use Rattle.cedar_service.specs.Ways.{Ways}
 use Rattle.cedar_service.specs.Serving.{loaded_version, AreAnswered}
 use Rattle.cedar_serve.specs.Metadata.{metadata_text}
 
@@ -34,9 +35,9 @@ pub record IsLoggedBy (s : Decisions Loaded) (config : Config) (before after : K
   pub sent : ∥ IsServed config h ∥₁
 
 -- The same of a service that decides as the policies and the entities do that these texts say, and tells where it is,
--- if that is given; whose pages have so many at most; which takes others in their place, or does not; and where the
--- attributes of a request stand instead of those that are stored, or not.
-pub record IsLoggedFrom (policies entities : Text) (url : Option Text) (page : ℕ) (allows wins : Bool) (config : Config)
+-- if that is given; whose pages have so many at most; which takes others in their place, or does not; and takes
+-- evaluations so.
+pub record IsLoggedFrom (policies entities : Text) (url : Option Text) (page : ℕ) (allows : Bool) (w : Ways) (config : Config)
     (before after : Known) (h : History) : Type 0 where
   pub service : Decisions Loaded
   pub due : List Call
@@ -44,7 +45,7 @@ pub record IsLoggedFrom (policies entities : Text) (url : Option Text) (page : �
   pub metadata : option_map string_bytes service.metadata ≡ option_map metadata_text url
   pub page_is : service.page ≡ page
   pub reload_is : service.allows_reload ≡ allows
-  pub answered : AreAnswered (both_texts policies entities wins) service due last
+  pub answered : AreAnswered (both_texts policies entities w) service due last
   pub told : AreSent due h.calls before after
   pub sent : ∥ IsServed config h ∥₁
 
@@ -52,8 +53,8 @@ pub record IsLoggedFrom (policies entities : Text) (url : Option Text) (page : �
 
 -- each line is answered as the policies and the entities decide that these texts say, and told to the log before that;
 -- nothing else is written
-pub record AreLoggedFrom (policies entities : Text) (wins : Bool) (reader writer last log log_last : Known)
+pub record AreLoggedFrom (policies entities : Text) (w : Ways) (reader writer last log log_last : Known)
     : Type 0 where
   pub loaded : Loaded
-  pub is_of : IsLoadedOf (both_texts policies entities wins) loaded
+  pub is_of : IsLoadedOf (both_texts policies entities w) loaded
   pub all : AreAllLogged (IsAuthorized (engine_of loaded)) (loaded_version loaded) reader writer last log log_last

@@ -22,6 +22,8 @@ pub(crate) struct Options<'a> {
     pub(crate) allows_reload: bool,
     /// Whether the attributes of a request stand instead of those that are stored.
     pub(crate) request_wins: bool,
+    /// The type of the actions, if that is said.
+    pub(crate) action_type: Option<&'a str>,
     /// How many bytes the body of a request may have, if that is said.
     pub(crate) max_body: Option<usize>,
     /// The name of the file to which decisions are told, if they are to be.
@@ -47,6 +49,7 @@ pub(crate) fn command<'a>(alloc: Global) -> Result<Command<'a>, AllocError> {
         )))?
         .arg(flag(alloc, "allow-reload", allow_reload))?
         .arg(flag(alloc, "request-attributes-win", wins))?
+        .arg(action_type(alloc)?)?
         .arg(lines(alloc)?)?
         .arg(log(alloc))?
         .arg(option(alloc, "max-body", "BYTES", max_body).value_parser(ValueParser::Unsigned(
@@ -73,6 +76,14 @@ fn lines<'a>(alloc: Global) -> Result<Arg<'a>, AllocError> {
         .conflicts_with("allow-reload")?
         .conflicts_with("request-attributes-win")?
         .conflicts_with("max-body")
+}
+
+// A log tells of actions of the type that is left out.
+fn action_type<'a>(alloc: Global) -> Result<Arg<'a>, AllocError> {
+    let help = "The type of the actions that AuthZEN's requests name; left out, Action";
+    option(alloc, "action-type", "TYPE", help)
+        .conflicts_with("log")?
+        .conflicts_with("lines")
 }
 
 fn log<'a>(alloc: Global) -> Arg<'a> {
@@ -103,6 +114,7 @@ pub(crate) fn options_of<'a>(matches: &ArgMatches<'a>) -> Options<'a> {
         is_lines: matches.get_flag("lines"),
         allows_reload: matches.get_flag("allow-reload"),
         request_wins: matches.get_flag("request-attributes-win"),
+        action_type: matches.get_str("action-type"),
         max_body: matches.get_one::<usize>("max-body"),
         log: matches.get_str("log"),
     }

@@ -4,6 +4,7 @@ ghost use Rattle.std.specs.Io.Buffered.{reader_remaining};
 ghost use Rattle.cedar_service.specs.Decided.{IsAuthorized};
 ghost use Rattle.cedar_service.specs.Loaded.{both_texts, IsLoadedOf, engine_of};
 ghost use Rattle.cedar_service.specs.Started.{IsNotStarted};
+ghost use Rattle.cedar_service.specs.Ways.{ways_view};
 ghost use Rattle.cedar_endpoints.specs.Lines.{AreAllAnswered};
 ghost use Rattle.cedar_serve.specs.Connections.{AreAnsweredFrom, IfUnstarted};
 ghost use Rattle.cedar_serve.specs.declared.serving.Stopped.TheVariants as stopped;
@@ -24,13 +25,13 @@ pub fn answer_texts<R: Read + Drop, W: Write>(
     writer: &mut W,
 ) -> Result<(), Stopped>
     ensures answered { OnOk result (AreAnsweredFrom texts.entry.policies.now texts.entry.entities.now
-        texts.entry.request_wins (reader_remaining R.remaining reader.old) (W.contents writer.old)
+        (ways_view texts.entry.ways) (reader_remaining R.remaining reader.old) (W.contents writer.old)
         (W.contents writer.new)) }
     ensures refused { IfUnstarted (IsNotStarted texts.entry.policies.now texts.entry.entities.now) result }
     ensures unread { IfUnstarted (λ e. reader.new ≡ reader.old) result }
     ensures unwritten { IfUnstarted (λ e. writer.new ≡ writer.old) result }
 {
-    match Loaded::of_texts(alloc, texts.policies, texts.entities, texts.request_wins) {
+    match Loaded::of_texts(alloc, texts.policies, texts.entities, texts.ways) {
         Ok(loaded) => {
             let answered = answer_with(alloc, &loaded, reader, writer);
             drop(loaded);

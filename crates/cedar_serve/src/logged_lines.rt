@@ -6,6 +6,7 @@ ghost use Rattle.cedar_service.specs.Decided.{IsAuthorized};
 ghost use Rattle.cedar_service.specs.Loaded.{both_texts, IsLoadedOf, engine_of};
 ghost use Rattle.cedar_service.specs.Serving.{loaded_version};
 ghost use Rattle.cedar_service.specs.Started.{IsNotStarted};
+ghost use Rattle.cedar_service.specs.Ways.{ways_view};
 ghost use Rattle.cedar_serve.specs.Connections.{IfUnstarted};
 ghost use Rattle.cedar_serve.specs.Logged.{AreLoggedFrom};
 
@@ -26,14 +27,14 @@ pub fn log_answers<R: Read + Drop, W: Write, L: Write + Drop>(
     writer: &mut W,
 ) -> (L, Result<(), Stopped>)
     ensures answered { OnOk result.1 (AreLoggedFrom texts.entry.policies.now texts.entry.entities.now
-        texts.entry.request_wins (reader_remaining R.remaining reader.old) (W.contents writer.old)
+        (ways_view texts.entry.ways) (reader_remaining R.remaining reader.old) (W.contents writer.old)
         (W.contents writer.new) (L.contents log) (L.contents result.0)) }
     ensures refused { IfUnstarted (IsNotStarted texts.entry.policies.now texts.entry.entities.now) result.1 }
     ensures unread { IfUnstarted (λ e. reader.new ≡ reader.old) result.1 }
     ensures unwritten { IfUnstarted (λ e. writer.new ≡ writer.old) result.1 }
     ensures unlogged { IfUnstarted (λ e. result.0 ≡ log) result.1 }
 {
-    match Loaded::of_texts(alloc, texts.policies, texts.entities, texts.request_wins) {
+    match Loaded::of_texts(alloc, texts.policies, texts.entities, texts.ways) {
         Ok(loaded) => log_loaded(alloc, loaded, log, reader, writer),
         Err(reason) => (log, Err(Stopped::NotStarted(reason))),
     }

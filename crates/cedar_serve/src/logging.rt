@@ -4,6 +4,7 @@ ghost use Rattle.std.specs.Io.KnownBytes.{Appends, Consumes};
 ghost use Rattle.http_server.specs.Connection.{config_of, history};
 ghost use Rattle.http_server.specs.History.{IsDone, new_history};
 ghost use Rattle.cedar_service.specs.Started.{IsNotStarted};
+ghost use Rattle.cedar_service.specs.Ways.{ways_view};
 ghost use Rattle.cedar_serve.specs.Connections.{IfServed, IfUnstarted};
 ghost use Rattle.cedar_serve.specs.Logged.{IsLoggedBy, IsLoggedFrom};
 
@@ -30,7 +31,7 @@ pub fn log_texts<R: Read, W: Write, L: Write + Drop>(
 ) -> (L, Result<State, Stopped>)
     ensures served { IfServed (λ h.
         IsLoggedFrom texts.entry.policies.now texts.entry.entities.now (option_map (λ u. u.now) texts.entry.url)
-        texts.entry.page texts.entry.allows_reload texts.entry.request_wins config
+        texts.entry.page texts.entry.allows_reload (ways_view texts.entry.ways) config
         (L.contents log) (L.contents result.0) h
         × Consumes (R.remaining reader.old) (R.remaining reader.new) h.received
         × Appends (W.contents writer.old) (W.contents writer.new) h.sent) result.1 }

@@ -2,11 +2,12 @@
 //! on standard input and output, as `socat`, systemd or inetd starts it. `docs/SERVING.md` describes it.
 //!
 //! - `main`: reads the words of the command line and the files, serves, and ends with a status: 0 where the connection is
-//!   done, `REFUSED` where there is none or it breaks, and `OUT_OF_MEMORY`.
-//! - `arguments`: the options. `files`: the files that they name. `serving`: `serve_texts`, the connection from the two
-//!   texts on. `lines`: `answer_texts`, requests that come a line each. `logging`, `logged_lines`: `log_texts` and
-//!   `log_answers`, the same with a log. `hosts`: all of it over what the system gives. `metadata`: where the endpoints
-//!   are. `reasons`, `refusal`, `visible`: why there is no connection, as it is told on standard error.
+//!   done, `REFUSED` where there is none or it breaks, `NO_TYPE`, and `OUT_OF_MEMORY`.
+//! - `arguments`: the options. `types`: the type of actions. `files`: the files that are named. `serving`:
+//!   `serve_texts`, the connection from the two texts on. `lines`: `answer_texts`, requests that come a line each.
+//!   `logging`, `logged_lines`: `log_texts` and `log_answers`, the same with a log. `hosts`: all of it over what
+//!   the system gives. `metadata`: where the endpoints are. `reasons`, `refusal`, `visible`: why there is no
+//!   connection, as it is told on standard error.
 //!
 //! The promise, of `serve_texts`: what is sent is the answers that are due to the requests received, in their order,
 //! where decisions are those of the policies and the entities that the two texts say (`IsServedFrom` in
@@ -23,9 +24,11 @@ mod metadata;
 mod reasons;
 mod refusal;
 mod serving;
+mod types;
 mod visible;
 
 use arguments::{Options, command, options_of, text_of_help};
+use cedar_service::Ways;
 use files::{file_text, file_to_append};
 use hosts::{config, log_host, log_lines_host, serve_host};
 use lines::answer_texts;
@@ -39,11 +42,14 @@ use std::process::ExitCode;
 use std::random::RandomSource;
 use std::rt::Files;
 use std::{env, io};
+use types::type_said;
 
 /// The connection is done, or help was printed.
 pub const DONE: u8 = 0;
 /// Nothing is served, or the connection broke.
 pub const REFUSED: u8 = 1;
+/// Nothing is served, for the type of actions that an option says is no name.
+pub const NO_TYPE: u8 = 2;
 /// Out of memory.
 pub const OUT_OF_MEMORY: u8 = 3;
 
@@ -61,6 +67,10 @@ fn run<R: Env + Files + Input + AllocGlobal + Print + Eprint + RandomSource>(rt:
         Err(Refusal::Told(line)) => {
             drop(rt.eprint(line.as_str()));
             REFUSED
+        }
+        Err(Refusal::NoType(line)) => {
+            drop(rt.eprint(line.as_str()));
+            NO_TYPE
         }
         Err(Refusal::Memory) => {
             drop(rt.eprint("out of memory\n"));
@@ -121,15 +131,20 @@ fn serve_files<R: Files + Input + AllocGlobal + Print + RandomSource>(
     rt: &R,
     options: Options<'_>,
 ) -> Result<(), Refusal> {
+    let action_type = type_said(rt.alloc(), options.action_type)?;
     let policies = file_text(rt, options.policies)?;
     let entities = file_text(rt, options.entities)?;
+    let ways = Ways {
+        request_wins: options.request_wins,
+        action_type: action_type.as_str(),
+    };
     let texts = Texts {
         policies: policies.as_str(),
         entities: entities.as_str(),
         url: options.url,
         page: options.page_size.unwrap_or(PAGE_SIZE),
         allows_reload: options.allows_reload,
-        request_wins: options.request_wins,
+        ways,
     };
     let ended = serve_as(rt, &options, texts)?;
     match ended {

@@ -12,6 +12,8 @@ pub(crate) enum Refusal {
     Memory,
     /// For a reason that is told in these lines, each of which is ended.
     Told(String),
+    /// For the type of actions, which is no name; the same.
+    NoType(String),
 }
 
 impl From<AllocError> for Refusal {

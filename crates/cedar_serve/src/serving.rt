@@ -5,13 +5,14 @@ ghost use Rattle.http_server.specs.Connection.{config_of, history};
 ghost use Rattle.http_server.specs.History.{IsDone, new_history};
 ghost use Rattle.cedar_service.specs.Loaded.{both_texts, IsLoadedOf};
 ghost use Rattle.cedar_service.specs.Started.{IsNotStarted};
+ghost use Rattle.cedar_service.specs.Ways.{ways_view};
 ghost use Rattle.cedar_serve.specs.Connections.{IsServedBy, IsServedFrom, IfServed, IfUnstarted};
 ghost use Rattle.cedar_serve.specs.Metadata.{metadata_text};
 ghost use Rattle.cedar_serve.specs.declared.serving.Stopped.TheVariants as stopped;
 
 use crate::metadata::metadata_of;
 use cedar_endpoints::Decisions;
-use cedar_service::{Loaded, NotStarted, serve_decisions};
+use cedar_service::{Loaded, NotStarted, Ways, serve_decisions};
 use http_server::{Config, Connection, State};
 use std::alloc::{AllocError, Global};
 use std::hash::RandomState;
@@ -31,8 +32,8 @@ pub struct Texts<'a> {
     pub page: usize,
     /// Whether other policies and entities are taken in place of these.
     pub allows_reload: bool,
-    /// Whether the attributes of a request stand instead of those that are stored.
-    pub request_wins: bool,
+    /// How evaluations are taken.
+    pub ways: Ways<'a>,
 }
 
 /// Why a connection was not served to its end.
@@ -66,7 +67,7 @@ pub fn serve_texts<R: Read, W: Write>(
 ) -> Result<State, Stopped>
     ensures served { IfServed (λ h.
         IsServedFrom texts.entry.policies.now texts.entry.entities.now (option_map (λ u. u.now) texts.entry.url)
-        texts.entry.page texts.entry.allows_reload texts.entry.request_wins config h
+        texts.entry.page texts.entry.allows_reload (ways_view texts.entry.ways) config h
         × Consumes (R.remaining reader.old) (R.remaining reader.new) h.received
         × Appends (W.contents writer.old) (W.contents writer.new) h.sent) result }
     ensures refused { IfUnstarted (IsNotStarted texts.entry.policies.now texts.entry.entities.now) result }
@@ -82,14 +83,14 @@ pub fn serve_texts<R: Read, W: Write>(
 /// The service of the engine that the texts make.
 pub(crate) fn service_of(alloc: Global, texts: Texts<'_>) -> Result<Decisions<Loaded>, NotStarted>
     ensures engine { IfOk result (λ s.
-        IsLoadedOf (both_texts texts.entry.policies.now texts.entry.entities.now texts.entry.request_wins) s.decider) }
+        IsLoadedOf (both_texts texts.entry.policies.now texts.entry.entities.now (ways_view texts.entry.ways)) s.decider) }
     ensures metadata { IfOk result (λ s.
         option_map string_bytes s.metadata ≡ option_map metadata_text (option_map (λ u. u.now) texts.entry.url)) }
     ensures page { IfOk result (λ s. s.page ≡ texts.entry.page) }
     ensures reload { IfOk result (λ s. s.allows_reload ≡ texts.entry.allows_reload) }
     ensures refused { IfErr result (IsNotStarted texts.entry.policies.now texts.entry.entities.now) }
 {
-    match Loaded::of_texts(alloc, texts.policies, texts.entities, texts.request_wins) {
+    match Loaded::of_texts(alloc, texts.policies, texts.entities, texts.ways) {
         Ok(loaded) => with_metadata(alloc, loaded, texts.url, texts.page, texts.allows_reload),
         Err(reason) => Err(reason),
     }

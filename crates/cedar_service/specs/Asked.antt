@@ -33,17 +33,17 @@ pub use Rattle.cedar_service.specs.Levels.{levels}
 abbrev pub entity_said : Named → Said EntityName
 entity_said n = named (Some (n.type_name, n.id))
 
--- the action of a name
-abbrev pub action_named : Text → EntityName
-action_named n = record { type_name = codes "Action"; id = n }
+-- the action of this type and this name
+abbrev pub action_named : Text → Text → EntityName
+action_named ty n = record { type_name = ty; id = n }
 
 -- the context that the JSON says; where none is given, one without attributes
 abbrev pub IsContextFor : world.Extensions → StoredCalls → Option Json → Context → Type 0
 IsContextFor X calls None c = context_view c ≡ known_context no_represented_at
 IsContextFor X calls (Some j) c = IsContextOf X calls levels (context_said j) c
 
--- the request of the subject, the action and the resource, in that context
-pub record IsAsked (X : world.Extensions) (calls : StoredCalls) (q : Evaluation) (r : Request) : Type 0 where
+-- the request of the subject, the action, which is of this type, and the resource, in that context
+pub record IsAsked (X : world.Extensions) (calls : StoredCalls) (ty : Text) (q : Evaluation) (r : Request) : Type 0 where
   pub principal : EntityName
   pub resource : EntityName
   pub context : Context
@@ -52,7 +52,7 @@ pub record IsAsked (X : world.Extensions) (calls : StoredCalls) (q : Evaluation)
   pub context_is : IsContextFor X calls q.context context
   pub request_is : request_view r ≡ record {
     principal_entry = known_entry principal;
-    action_entry = known_entry (action_named q.action);
+    action_entry = known_entry (action_named ty q.action);
     resource_entry = known_entry resource;
     context_part = context_view context;
   }

@@ -33,6 +33,7 @@ use Rattle.cedar_service.specs.Brought.{IsBroughtBy, IsUnbroughtBy}
 use Rattle.cedar_service.specs.Engines.{policies_of, entities_of}
 use Rattle.cedar_service.specs.Faults.{IsFault}
 use Rattle.cedar_service.specs.Properties.{IsAskedOver, AreUnlaid}
+use Rattle.cedar_service.specs.Ways.{Ways}
 use Rattle.cedar_service.specs.Standard.{standard_extensions, standard_calls}
 use Rattle.cedar_service.specs.Asked.{IsAsked, IsUnasked, IsSaid, IsUnsaid, has_known_context}
 
@@ -96,17 +97,17 @@ pub data IsAnswered (X : world.Extensions) (calls : StoredCalls) (e : Engine) (s
 
 -- what is decided for the request that is asked: the answer to it over the entities with the properties of the
 -- evaluation; or why these are refused
-pub data IsDecidedOver (X : world.Extensions) (calls : StoredCalls) (e : Engine) (wins : Bool) (q : Evaluation)
+pub data IsDecidedOver (X : world.Extensions) (calls : StoredCalls) (e : Engine) (w : Ways) (q : Evaluation)
     (r : Request) (o : Outcome) : Type 0 where
-  laid : (s : Entities) → IsAskedOver X calls wins (entities_of e) q s → IsAnswered X calls e s r o
-      → IsDecidedOver X calls e wins q r o
-  not_laid : IsRefusedAs (AreUnlaid X calls wins (entities_of e) q) o → IsDecidedOver X calls e wins q r o
+  laid : (s : Entities) → IsAskedOver X calls w (entities_of e) q s → IsAnswered X calls e s r o
+      → IsDecidedOver X calls e w q r o
+  not_laid : IsRefusedAs (AreUnlaid X calls w (entities_of e) q) o → IsDecidedOver X calls e w q r o
 
 -- what is decided: that, for the request that is asked; or why none is
-pub data IsDecidedWith (X : world.Extensions) (calls : StoredCalls) (e : Engine) (wins : Bool) (q : Evaluation)
+pub data IsDecidedWith (X : world.Extensions) (calls : StoredCalls) (e : Engine) (w : Ways) (q : Evaluation)
     (o : Outcome) : Type 0 where
-  asked : (r : Request) → IsAsked X calls q r → IsDecidedOver X calls e wins q r o → IsDecidedWith X calls e wins q o
-  not_asked : IsRefusedAs (IsUnasked X calls q) o → IsDecidedWith X calls e wins q o
+  asked : (r : Request) → IsAsked X calls w.action_type q r → IsDecidedOver X calls e w q r o → IsDecidedWith X calls e w q o
+  not_asked : IsRefusedAs (IsUnasked X calls q) o → IsDecidedWith X calls e w q o
 
 -- over this store, what is decided for the request that a text says
 pub data IsAuthorizedOver (X : world.Extensions) (calls : StoredCalls) (e : Engine) (s : Entities) (text : Text)
@@ -123,7 +124,7 @@ pub data IsAuthorizedWith (X : world.Extensions) (calls : StoredCalls) (e : Engi
 
 -- ---- with the standard extensions
 
-abbrev pub IsDecided : Engine → Bool → Evaluation → Outcome → Type 0
+abbrev pub IsDecided : Engine → Ways → Evaluation → Outcome → Type 0
 IsDecided = IsDecidedWith standard_extensions standard_calls
 
 abbrev pub IsAuthorized : Engine → Text → Outcome → Type 0

@@ -1,6 +1,7 @@
 pub mod Standard
 pub mod Faults
 pub mod Levels
+pub mod Ways
 pub mod Documents
 pub mod Asked
 pub mod Brought

@@ -14,19 +14,20 @@ use Rattle.cedar_service.specs.declared.loaded.Loaded.{Loaded}
 use Rattle.cedar_service.specs.declared.loaded.Texts as rust_texts
 use Rattle.cedar_service.specs.Faults.{IsFaultBelow}
 use Rattle.cedar_service.specs.Started.{IsEngineOf, IsNotStarted}
+use Rattle.cedar_service.specs.Ways.{Ways, ways_of}
 
--- the policies, in Cedar's text, and the entities, in Cedar's JSON; and whether the attributes of a request stand instead
--- of those that are stored
+-- the policies, in Cedar's text, and the entities, in Cedar's JSON; and how evaluations are taken
 pub record Texts : Type 0 where
   pub policies : Text
   pub entities : Text
-  pub request_wins : Bool
+  pub ways : Ways
 
-abbrev pub both_texts : Text → Text → Bool → Texts
-both_texts policies entities wins = record { policies = policies; entities = entities; request_wins = wins }
+abbrev pub both_texts : Text → Text → Ways → Texts
+both_texts policies entities w = record { policies = policies; entities = entities; ways = w }
 
 abbrev pub texts_view : rust_texts.Texts → Texts
-texts_view t = both_texts (string_bytes t.policies) (string_bytes t.entities) t.request_wins
+texts_view t =
+    both_texts (string_bytes t.policies) (string_bytes t.entities) (ways_of t.request_wins (string_bytes t.action_type))
 
 -- what decides
 abbrev pub engine_of : Loaded → Engine
@@ -36,9 +37,9 @@ engine_of l = l.engine
 abbrev pub texts_of : Loaded → Texts
 texts_of l = texts_view l.texts
 
--- whether the attributes of a request stand instead of those that are stored
-abbrev pub request_wins : Loaded → Bool
-request_wins l = l.texts.request_wins
+-- how it takes evaluations
+abbrev pub loaded_ways : Loaded → Ways
+loaded_ways l = (texts_of l).ways
 
 -- it has these texts, and the engine of them
 pub record IsLoadedOf (ts : Texts) (l : Loaded) : Type 0 where
@@ -47,8 +48,8 @@ pub record IsLoadedOf (ts : Texts) (l : Loaded) : Type 0 where
 
 -- the same, with this text in place of the policies or of the entities
 abbrev pub replaced_with : Replaced → Text → Texts → Texts
-replaced_with parts.Policies t ts = both_texts t ts.entities ts.request_wins
-replaced_with parts.Entities t ts = both_texts ts.policies t ts.request_wins
+replaced_with parts.Policies t ts = both_texts t ts.entities ts.ways
+replaced_with parts.Entities t ts = both_texts ts.policies t ts.ways
 
 -- what takes its place has the engine of these
 abbrev pub Remakes : Loaded → Replaced → Text → Loaded → Type 0

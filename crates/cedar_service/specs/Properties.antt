@@ -23,6 +23,7 @@ use Rattle.cedar_overlay.specs.Overlaid.{overlaid, AreFree, IsRefused}
 use Rattle.cedar_endpoints.specs.Asked.{Named, Evaluation}
 use Rattle.cedar_service.specs.Levels.{levels}
 use Rattle.cedar_service.specs.Faults.{IsFault, IsFaultBelow}
+use Rattle.cedar_service.specs.Ways.{Ways}
 use Rattle.cedar_service.specs.Asked.{entity_said, action_named, is_known_part, IsUnnamed, IsNoContext}
 
 -- ---- attributes
@@ -101,8 +102,8 @@ pub data IsUnlaid (X : world.Extensions) (calls : StoredCalls) (wins : Bool) (s 
 abbrev pub IsNamedAs : Named → EntityName → Type 0
 IsNamedAs q n = entity_said q ≡ Ok n
 
-abbrev pub IsActionNamed : Text → EntityName → Type 0
-IsActionNamed a n = n ≡ action_named a
+abbrev pub IsActionNamed : Text → Text → EntityName → Type 0
+IsActionNamed ty a n = n ≡ action_named ty a
 
 -- the store with the properties of the entity of which this is so; without any it is the store that stands
 abbrev pub IsWithProperties : world.Extensions → StoredCalls → Bool → Entities → (EntityName → Type 0) → Option Json
@@ -126,35 +127,35 @@ pub data AreWrongOfNamed (X : world.Extensions) (calls : StoredCalls) (wins : Bo
 -- ---- the properties of an evaluation
 
 -- the store with the properties of the action, and then those of the resource
-pub record IsAskedWithAction (X : world.Extensions) (calls : StoredCalls) (wins : Bool) (s : Entities) (q : Evaluation)
+pub record IsAskedWithAction (X : world.Extensions) (calls : StoredCalls) (w : Ways) (s : Entities) (q : Evaluation)
     (made : Entities) : Type 0 where
   pub with_action : Entities
-  pub action : IsWithProperties X calls wins s (IsActionNamed q.action) q.properties.action with_action
-  pub resource : IsWithProperties X calls wins with_action (IsNamedAs q.resource) q.properties.resource made
+  pub action : IsWithProperties X calls w.request_wins s (IsActionNamed w.action_type q.action) q.properties.action with_action
+  pub resource : IsWithProperties X calls w.request_wins with_action (IsNamedAs q.resource) q.properties.resource made
 
 -- the store with those of the subject, then of the action, then of the resource
-pub record IsAskedOver (X : world.Extensions) (calls : StoredCalls) (wins : Bool) (s : Entities) (q : Evaluation)
+pub record IsAskedOver (X : world.Extensions) (calls : StoredCalls) (w : Ways) (s : Entities) (q : Evaluation)
     (made : Entities) : Type 0 where
   pub with_subject : Entities
-  pub subject : IsWithProperties X calls wins s (IsNamedAs q.subject) q.properties.subject with_subject
-  pub others : IsAskedWithAction X calls wins with_subject q made
+  pub subject : IsWithProperties X calls w.request_wins s (IsNamedAs q.subject) q.properties.subject with_subject
+  pub others : IsAskedWithAction X calls w with_subject q made
 
 -- ---- why there is none
 
-pub data IsActionUnlaid (X : world.Extensions) (calls : StoredCalls) (wins : Bool) (s : Entities) (q : Evaluation)
+pub data IsActionUnlaid (X : world.Extensions) (calls : StoredCalls) (w : Ways) (s : Entities) (q : Evaluation)
     (t : Text) : Type 0 where
-  of_action : AreWrongProperties X calls wins s (IsActionNamed q.action) q.properties.action
-      (codes "$.action.properties") t → IsActionUnlaid X calls wins s q t
+  of_action : AreWrongProperties X calls w.request_wins s (IsActionNamed w.action_type q.action) q.properties.action
+      (codes "$.action.properties") t → IsActionUnlaid X calls w s q t
   of_resource : (with_action : Entities)
-      → IsWithProperties X calls wins s (IsActionNamed q.action) q.properties.action with_action
-      → AreWrongOfNamed X calls wins with_action q.resource (codes "$.resource.type") q.properties.resource
-      (codes "$.resource.properties") t → IsActionUnlaid X calls wins s q t
+      → IsWithProperties X calls w.request_wins s (IsActionNamed w.action_type q.action) q.properties.action with_action
+      → AreWrongOfNamed X calls w.request_wins with_action q.resource (codes "$.resource.type") q.properties.resource
+      (codes "$.resource.properties") t → IsActionUnlaid X calls w s q t
 
 -- the properties of the subject are wrong; or, over the store with them, those of the action or of the resource
-pub data AreUnlaid (X : world.Extensions) (calls : StoredCalls) (wins : Bool) (s : Entities) (q : Evaluation) (t : Text)
+pub data AreUnlaid (X : world.Extensions) (calls : StoredCalls) (w : Ways) (s : Entities) (q : Evaluation) (t : Text)
     : Type 0 where
-  of_subject : AreWrongOfNamed X calls wins s q.subject (codes "$.subject.type") q.properties.subject
-      (codes "$.subject.properties") t → AreUnlaid X calls wins s q t
+  of_subject : AreWrongOfNamed X calls w.request_wins s q.subject (codes "$.subject.type") q.properties.subject
+      (codes "$.subject.properties") t → AreUnlaid X calls w s q t
   of_others : (with_subject : Entities)
-      → IsWithProperties X calls wins s (IsNamedAs q.subject) q.properties.subject with_subject
-      → IsActionUnlaid X calls wins with_subject q t → AreUnlaid X calls wins s q t
+      → IsWithProperties X calls w.request_wins s (IsNamedAs q.subject) q.properties.subject with_subject
+      → IsActionUnlaid X calls w with_subject q t → AreUnlaid X calls w s q t

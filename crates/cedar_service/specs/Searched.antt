@@ -26,6 +26,7 @@ use Rattle.cedar_service.specs.declared.faults.Refusal.TheVariants as refusals
 use Rattle.cedar_service.specs.Engines.{policies_of, entities_of, candidates_of}
 use Rattle.cedar_service.specs.Faults.{IsFault}
 use Rattle.cedar_service.specs.Properties.{IsAskedOver, AreUnlaid}
+use Rattle.cedar_service.specs.Ways.{Ways}
 use Rattle.cedar_service.specs.Standard.{standard_extensions, standard_calls}
 use Rattle.cedar_service.specs.Asked.{IsAsked, IsUnasked, has_known_context}
 use Rattle.cedar_service.specs.Decided.{configuration_of}
@@ -129,21 +130,21 @@ pub data IsPageFor (X : world.Extensions) (calls : StoredCalls) (e : Engine) (s 
 
 -- what is found for the request that is asked: the page for it over the entities with the properties of the parts that
 -- are known; or why these are refused
-pub data IsFoundOver (X : world.Extensions) (calls : StoredCalls) (e : Engine) (wins : Bool) (q : Evaluation)
+pub data IsFoundOver (X : world.Extensions) (calls : StoredCalls) (e : Engine) (w : Ways) (q : Evaluation)
     (part : Part) (r : Request) (after most : ℕ) (f : Finding) : Type 0 where
-  laid : (s : Entities) → IsAskedOver X calls wins (entities_of e) q s → IsPageFor X calls e s part r after most f
-      → IsFoundOver X calls e wins q part r after most f
-  not_laid : IsUnfoundAs (AreUnlaid X calls wins (entities_of e) q) f
-      → IsFoundOver X calls e wins q part r after most f
+  laid : (s : Entities) → IsAskedOver X calls w (entities_of e) q s → IsPageFor X calls e s part r after most f
+      → IsFoundOver X calls e w q part r after most f
+  not_laid : IsUnfoundAs (AreUnlaid X calls w (entities_of e) q) f
+      → IsFoundOver X calls e w q part r after most f
 
 -- what is found: that, for the request that is asked; or why none is
-pub data IsFoundWith (X : world.Extensions) (calls : StoredCalls) (e : Engine) (wins : Bool) (q : Search)
+pub data IsFoundWith (X : world.Extensions) (calls : StoredCalls) (e : Engine) (w : Ways) (q : Search)
     (after most : ℕ) (f : Finding) : Type 0 where
-  searched : (r : Request) → IsAsked X calls (sample q) r
-      → IsFoundOver X calls e wins (sample q) (part_of q.parts) r after most f
-      → IsFoundWith X calls e wins q after most f
-  not_searched : IsUnfoundAs (IsUnasked X calls (sample q)) f → IsFoundWith X calls e wins q after most f
+  searched : (r : Request) → IsAsked X calls w.action_type (sample q) r
+      → IsFoundOver X calls e w (sample q) (part_of q.parts) r after most f
+      → IsFoundWith X calls e w q after most f
+  not_searched : IsUnfoundAs (IsUnasked X calls (sample q)) f → IsFoundWith X calls e w q after most f
 
 -- with the standard extensions
-abbrev pub IsFound : Engine → Bool → Search → ℕ → ℕ → Finding → Type 0
+abbrev pub IsFound : Engine → Ways → Search → ℕ → ℕ → Finding → Type 0
 IsFound = IsFoundWith standard_extensions standard_calls

@@ -12,7 +12,7 @@ use Rattle.cedar_service.specs.declared.loaded.Loaded.{Loaded}
 use Rattle.cedar_service.specs.Decided.{IsDecided, IsAuthorized}
 use Rattle.cedar_service.specs.Engines.{version_of, candidate_count}
 use Rattle.cedar_service.specs.Left.{IsLeft}
-use Rattle.cedar_service.specs.Loaded.{Texts, engine_of, request_wins, IsLoadedOf, Refuses, replaced_with}
+use Rattle.cedar_service.specs.Loaded.{Texts, engine_of, loaded_ways, IsLoadedOf, Refuses, replaced_with}
 use Rattle.cedar_service.specs.Searched.{IsFound}
 
 -- the version of what is decided
@@ -22,9 +22,9 @@ loaded_version l = version_of (engine_of l)
 -- what the engine decides, leaves and finds, whether it can be replaced, and where it is told
 abbrev pub offers_of : Decisions Loaded → Offers
 offers_of s =
-    offered (IsDecided (engine_of s.decider) (request_wins s.decider)) (IsAuthorized (engine_of s.decider))
+    offered (IsDecided (engine_of s.decider) (loaded_ways s.decider)) (IsAuthorized (engine_of s.decider))
     (IsLeft (engine_of s.decider))
-    (finder_of (IsFound (engine_of s.decider) (request_wins s.decider)) (loaded_version s.decider)
+    (finder_of (IsFound (engine_of s.decider) (loaded_ways s.decider)) (loaded_version s.decider)
     (candidate_count (engine_of s.decider)) s.page)
     (reloads_of s.allows_reload (Refuses s.decider)) (option_map string_bytes s.metadata)
 

@@ -10,19 +10,21 @@ ghost use Rattle.cedar_service.specs.Documents.{IsReadAs};
 ghost use Rattle.cedar_service.specs.Engines.{version_of, candidate_count, entities_of};
 ghost use Rattle.json.specs.Value.{value_view};
 ghost use Rattle.cedar_service.specs.Left.{IsLeft};
-ghost use Rattle.cedar_service.specs.Loaded.{engine_of, request_wins, Remakes, Refuses};
+ghost use Rattle.cedar_service.specs.Loaded.{engine_of, loaded_ways, Remakes, Refuses};
 ghost use Rattle.cedar_service.specs.Searched.{IsFound};
+ghost use Rattle.cedar_service.specs.Ways.{ways_view};
 
 use crate::brought::brought_over;
 use crate::documents::parse_json;
 use crate::engine::Engine;
 use crate::faults::{Refusal, refuse, refuse_json};
 use crate::leaving::leave;
-use crate::loaded::{Loaded, remade};
+use crate::loaded::{Loaded, remade, ways_of};
 use crate::properties::laid_over;
 use crate::requests::{has_known_context, request_of, request_said};
 use crate::responses::{outcome_of, response_to};
 use crate::searching::search;
+use crate::ways::Ways;
 use cedar_endpoints::{
     Decider, Evaluation, Finding, NotRemade, Outcome, Partial, Remainder, Replaced, Search,
 };
@@ -35,13 +37,13 @@ use std::alloc::{AllocError, Global};
 /// An evaluation is decided as the engine's policies decide its request, or refused with the path of what is wrong in
 /// it; and so is a text of Cedar's JSON. What takes its place has the engine of the texts, of which one is another.
 impl Decider for Loaded {
-    ghost decides = { λ l. IsDecided (engine_of l) (request_wins l) };
+    ghost decides = { λ l. IsDecided (engine_of l) (loaded_ways l) };
 
     ghost authorizes = { λ l. IsAuthorized (engine_of l) };
 
     ghost leaves = { λ l. IsLeft (engine_of l) };
 
-    ghost finds = { λ l. IsFound (engine_of l) (request_wins l) };
+    ghost finds = { λ l. IsFound (engine_of l) (loaded_ways l) };
 
     ghost version = { λ l. version_of (engine_of l) };
 
@@ -52,7 +54,7 @@ impl Decider for Loaded {
     ghost refuses = { Refuses };
 
     fn decide(&self, alloc: Global, question: &Evaluation<'_, '_>) -> Result<Outcome, AllocError> {
-        decide(&self.engine, alloc, question, self.texts.request_wins)
+        decide(&self.engine, alloc, question, ways_of(&self.texts))
     }
 
     fn authorize(&self, alloc: Global, text: &str) -> Result<Outcome, AllocError> {
@@ -83,7 +85,7 @@ impl Decider for Loaded {
             &self.engine,
             alloc,
             question,
-            self.texts.request_wins,
+            ways_of(&self.texts),
             after,
             most,
         )
@@ -102,12 +104,12 @@ fn decide(
     engine: &Engine,
     alloc: Global,
     question: &Evaluation<'_, '_>,
-    request_wins: bool,
+    ways: Ways<'_>,
 ) -> Result<Outcome, AllocError>
-    ensures { IfOk result (IsDecided engine.now request_wins (evaluation_view question.now)) }
+    ensures { IfOk result (IsDecided engine.now (ways_view ways.entry) (evaluation_view question.now)) }
 {
     let extensions = Extensions::all_available();
-    decide_with(engine, alloc, question, request_wins, &extensions)
+    decide_with(engine, alloc, question, ways, &extensions)
 }
 
 fn authorize(engine: &Engine, alloc: Global, text: &str) -> Result<Outcome, AllocError>
@@ -123,14 +125,14 @@ fn decide_with(
     engine: &Engine,
     alloc: Global,
     question: &Evaluation<'_, '_>,
-    request_wins: bool,
+    ways: Ways<'_>,
     extensions: &Extensions<'_>,
 ) -> Result<Outcome, AllocError>
     ensures { IfOk result (IsDecidedWith (extensions_view extensions.now) (calls_of extensions.now) engine.now
-        request_wins (evaluation_view question.now)) }
+        (ways_view ways.entry) (evaluation_view question.now)) }
 {
-    match request_of(alloc, question, extensions) {
-        Ok(request) => decide_over(engine, alloc, question, request_wins, request, extensions),
+    match request_of(alloc, question, ways.action_type, extensions) {
+        Ok(request) => decide_over(engine, alloc, question, ways, request, extensions),
         Err(refusal) => refused(refusal),
     }
 }
@@ -140,14 +142,14 @@ fn decide_over(
     engine: &Engine,
     alloc: Global,
     question: &Evaluation<'_, '_>,
-    request_wins: bool,
+    ways: Ways<'_>,
     request: Request,
     extensions: &Extensions<'_>,
 ) -> Result<Outcome, AllocError>
     ensures { IfOk result (IsDecidedOver (extensions_view extensions.now) (calls_of extensions.now) engine.now
-        request_wins (evaluation_view question.now) request) }
+        (ways_view ways.entry) (evaluation_view question.now) request) }
 {
-    match laid_over(alloc, engine.entities(), question, request_wins, extensions) {
+    match laid_over(alloc, engine.entities(), question, ways, extensions) {
         Ok(laid) => answer_laid(engine, alloc, laid, request, extensions),
         Err(refusal) => {
             drop(request);

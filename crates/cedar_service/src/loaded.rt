@@ -4,10 +4,12 @@ ghost use Rattle.cedar_endpoints.specs.Reloads.{IsNotRemade};
 ghost use Rattle.cedar_service.specs.Faults.{IsToldAs, IsFaultBelow};
 ghost use Rattle.cedar_service.specs.Loaded.{both_texts, texts_of, texts_view, replaced_with, IsLoadedOf, Remakes};
 ghost use Rattle.cedar_service.specs.Loaded.{Refuses, IsRefusedFor, IsOfTexts, IsSameRefusal};
+ghost use Rattle.cedar_service.specs.Ways.{ways_view};
 
 use crate::engine::{Engine, NotStarted};
 use crate::faults::{Refusal, refuse_below, refuse_json};
 use crate::reasons::policies_reason;
+use crate::ways::Ways;
 use cedar_endpoints::{NotRemade, Replaced};
 use cedar_hierarchy::ClosureError;
 use cedar_names::FirstRest;
@@ -23,6 +25,8 @@ pub(crate) struct Texts {
     pub(crate) entities: String,
     // Whether the attributes of a request stand instead of those that are stored.
     pub(crate) request_wins: bool,
+    // The type of the actions.
+    pub(crate) action_type: String,
 }
 
 /// An engine, and the texts that it is made of.
@@ -38,18 +42,18 @@ impl Loaded {
 
     /// The engine of the policies that the first text writes, in Cedar's text, over the entities that the second one
     /// says, in Cedar's JSON, with copies of both. Where an evaluation has a property of the name of an attribute that is
-    /// stored, it is refused, unless `request_wins`: then its property stands instead. Refuses as `Engine::of_texts`
+    /// stored, it is refused, unless the request wins: then its property stands instead. Refuses as `Engine::of_texts`
     /// does.
     pub fn of_texts(
         alloc: Global,
         policies: &str,
         entities: &str,
-        request_wins: bool,
+        ways: Ways<'_>,
     ) -> Result<Loaded, NotStarted>
-        ensures loaded { IfOk result (IsLoadedOf (both_texts policies.now entities.now request_wins)) }
+        ensures loaded { IfOk result (IsLoadedOf (both_texts policies.now entities.now (ways_view ways.entry))) }
         ensures refused { IfErr result (IsNotStarted policies.now entities.now) }
     {
-        match copied(alloc, policies, entities, request_wins) {
+        match copied(alloc, policies, entities, ways) {
             Ok(texts) => with_engine(alloc, policies, entities, texts),
             Err(AllocError) => Err(NotStarted::Memory),
         }
@@ -65,14 +69,24 @@ impl Loaded {
 
 ghost use Rattle.cedar_service.specs.Started.{IsNotStarted};
 
+/// How evaluations are taken.
+pub(crate) fn ways_of(texts: &Texts) -> Ways<'_>
+    ensures { ways_view result ≡ (texts_view texts.now).ways }
+{
+    Ways {
+        request_wins: texts.request_wins,
+        action_type: texts.action_type.as_str(),
+    }
+}
+
 fn with_engine(
     alloc: Global,
     policies: &str,
     entities: &str,
     texts: Texts,
 ) -> Result<Loaded, NotStarted>
-    requires { texts_view texts ≡ both_texts policies.now entities.now texts.request_wins }
-    ensures loaded { IfOk result (IsLoadedOf (both_texts policies.now entities.now texts.request_wins)) }
+    requires { texts_view texts ≡ both_texts policies.now entities.now (texts_view texts).ways }
+    ensures loaded { IfOk result (IsLoadedOf (both_texts policies.now entities.now (texts_view texts).ways)) }
     ensures refused { IfErr result (IsNotStarted policies.now entities.now) }
 {
     match Engine::of_texts(alloc, policies, entities) {
@@ -88,16 +102,18 @@ fn copied(
     alloc: Global,
     policies: &str,
     entities: &str,
-    request_wins: bool,
+    ways: Ways<'_>,
 ) -> Result<Texts, AllocError>
-    ensures { IfOk result (λ t. texts_view t ≡ both_texts policies.now entities.now request_wins) }
+    ensures { IfOk result (λ t. texts_view t ≡ both_texts policies.now entities.now (ways_view ways.entry)) }
 {
     let policies = String::from_str(alloc, policies)?;
     let entities = String::from_str(alloc, entities)?;
+    let action_type = String::from_str(alloc, ways.action_type)?;
     Ok(Texts {
         policies,
         entities,
-        request_wins,
+        request_wins: ways.request_wins,
+        action_type,
     })
 }
 
@@ -114,8 +130,8 @@ pub(crate) fn remade(
 {
     let texts = &loaded.texts;
     match replaced {
-        Replaced::Policies => made_of(alloc, text, texts.entities.as_str(), texts.request_wins),
-        Replaced::Entities => made_of(alloc, texts.policies.as_str(), text, texts.request_wins),
+        Replaced::Policies => made_of(alloc, text, texts.entities.as_str(), ways_of(texts)),
+        Replaced::Entities => made_of(alloc, texts.policies.as_str(), text, ways_of(texts)),
     }
 }
 
@@ -123,12 +139,12 @@ fn made_of(
     alloc: Global,
     policies: &str,
     entities: &str,
-    request_wins: bool,
+    ways: Ways<'_>,
 ) -> Result<Loaded, NotRemade>
-    ensures made { IfOk result (IsLoadedOf (both_texts policies.now entities.now request_wins)) }
-    ensures refused { IfErr result (IsNotRemade (IsRefusedFor (both_texts policies.now entities.now request_wins))) }
+    ensures made { IfOk result (IsLoadedOf (both_texts policies.now entities.now (ways_view ways.entry))) }
+    ensures refused { IfErr result (IsNotRemade (IsRefusedFor (both_texts policies.now entities.now (ways_view ways.entry)))) }
 {
-    match Loaded::of_texts(alloc, policies, entities, request_wins) {
+    match Loaded::of_texts(alloc, policies, entities, ways) {
         Ok(loaded) => Ok(loaded),
         Err(reason) => {
             let refusal = refuse_reason(alloc, policies, &reason);

@@ -30,11 +30,15 @@ pub(crate) fn entity_of(alloc: Global, named: Named<'_>, path: &str) -> Result<E
     }
 }
 
-/// The action of this name.
-pub(crate) fn action_of(alloc: Global, name: &str) -> Result<EntityUID, AllocError>
-    ensures { IfOk result (λ u. uid_name u ≡ action_named name.now) }
+/// The action of this type and this name.
+pub(crate) fn action_of(
+    alloc: Global,
+    action_type: &str,
+    name: &str,
+) -> Result<EntityUID, AllocError>
+    ensures { IfOk result (λ u. uid_name u ≡ action_named action_type.now name.now) }
 {
-    EntityUID::of(alloc, "Action", name)
+    EntityUID::of(alloc, action_type, name)
 }
 
 fn read_uid(

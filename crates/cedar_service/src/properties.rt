@@ -13,11 +13,13 @@ ghost use Rattle.cedar_service.specs.Faults.{IsFaultBelow, IsToldAs};
 ghost use Rattle.cedar_service.specs.Properties.{AreAttributesOf, IsLaidOver, IsLaidAs, IsUnlaid, IsAskedOver, AreUnlaid};
 ghost use Rattle.cedar_service.specs.Properties.{IsNamedAs, IsActionNamed, IsWithProperties, AreWrongProperties};
 ghost use Rattle.cedar_service.specs.Properties.{AreWrongOfNamed, IsAskedWithAction, IsActionUnlaid, AreNoAttributes};
+ghost use Rattle.cedar_service.specs.Ways.{ways_view};
 ghost use Rattle.cedar_service.specs.Properties.{IsNotKnown, AreTaken, IsOfAttributes, HasOneMore};
 
 use crate::contexts::context_in;
 use crate::faults::{Refusal, refuse, refuse_at_key, refuse_below};
 use crate::names::{action_of, entity_of};
+use crate::ways::Ways;
 use cedar_endpoints::{Evaluation, Named};
 use cedar_extensions::Extensions;
 use cedar_fallible::add_last;
@@ -42,13 +44,13 @@ pub(crate) fn laid_over(
     alloc: Global,
     stored: &Entities,
     question: &Evaluation<'_, '_>,
-    request_wins: bool,
+    ways: Ways<'_>,
     extensions: &Extensions<'_>,
 ) -> Result<Option<Entities>, Refusal>
     ensures laid { IfOk result (λ o. IsAskedOver (extensions_view extensions.now) (calls_of extensions.now)
-        request_wins stored.now (evaluation_view question.now) (laid_or stored.now o)) }
+        (ways_view ways.entry) stored.now (evaluation_view question.now) (laid_or stored.now o)) }
     ensures refused { IfErr result (IsToldAs (AreUnlaid (extensions_view extensions.now) (calls_of extensions.now)
-        request_wins stored.now (evaluation_view question.now))) }
+        (ways_view ways.entry) stored.now (evaluation_view question.now))) }
 {
     match with_named(
         alloc,
@@ -58,10 +60,10 @@ pub(crate) fn laid_over(
         "$.subject.type",
         question.properties.subject,
         "$.subject.properties",
-        request_wins,
+        ways.request_wins,
         extensions,
     ) {
-        Ok(laid) => with_action(alloc, stored, laid, question, request_wins, extensions),
+        Ok(laid) => with_action(alloc, stored, laid, question, ways, extensions),
         Err(refusal) => Err(refusal),
     }
 }
@@ -72,13 +74,13 @@ fn with_action(
     stored: &Entities,
     laid: Option<Entities>,
     question: &Evaluation<'_, '_>,
-    request_wins: bool,
+    ways: Ways<'_>,
     extensions: &Extensions<'_>,
 ) -> Result<Option<Entities>, Refusal>
     ensures laid { IfOk result (λ o. IsAskedWithAction (extensions_view extensions.now) (calls_of extensions.now)
-        request_wins (laid_or stored.now laid) (evaluation_view question.now) (laid_or stored.now o)) }
+        (ways_view ways.entry) (laid_or stored.now laid) (evaluation_view question.now) (laid_or stored.now o)) }
     ensures refused { IfErr result (IsToldAs (IsActionUnlaid (extensions_view extensions.now) (calls_of extensions.now)
-        request_wins (laid_or stored.now laid) (evaluation_view question.now))) }
+        (ways_view ways.entry) (laid_or stored.now laid) (evaluation_view question.now))) }
 {
     match with_properties_of_action(
         alloc,
@@ -86,7 +88,7 @@ fn with_action(
         laid,
         question.action,
         question.properties.action,
-        request_wins,
+        ways,
         extensions,
     ) {
         Ok(laid) => with_named(
@@ -97,7 +99,7 @@ fn with_action(
             "$.resource.type",
             question.properties.resource,
             "$.resource.properties",
-            request_wins,
+            ways.request_wins,
             extensions,
         ),
         Err(refusal) => Err(refusal),
@@ -112,20 +114,21 @@ fn with_properties_of_action(
     laid: Option<Entities>,
     name: &str,
     given: Option<&Value<'_>>,
-    request_wins: bool,
+    ways: Ways<'_>,
     extensions: &Extensions<'_>,
 ) -> Result<Option<Entities>, Refusal>
     ensures laid { IfOk result (λ o. IsWithProperties (extensions_view extensions.now) (calls_of extensions.now)
-        request_wins (laid_or stored.now laid) (IsActionNamed name.now)
+        ways.entry.request_wins (laid_or stored.now laid) (IsActionNamed ways.entry.action_type.now name.now)
         (option_map (λ v. value_view v.now) given.entry)
         (laid_or stored.now o)) }
     ensures refused { IfErr result (IsToldAs (AreWrongProperties (extensions_view extensions.now)
-        (calls_of extensions.now) request_wins (laid_or stored.now laid) (IsActionNamed name.now)
+        (calls_of extensions.now) ways.entry.request_wins (laid_or stored.now laid)
+        (IsActionNamed ways.entry.action_type.now name.now)
         (option_map (λ v. value_view v.now) given.entry)
         (codes "$.action.properties"))) }
 {
     match given {
-        Some(given) => lay_action(alloc, stored, laid, name, given, request_wins, extensions),
+        Some(given) => lay_action(alloc, stored, laid, name, given, ways, extensions),
         None => Ok(laid),
     }
 }
@@ -136,17 +139,18 @@ fn lay_action(
     laid: Option<Entities>,
     name: &str,
     given: &Value<'_>,
-    request_wins: bool,
+    ways: Ways<'_>,
     extensions: &Extensions<'_>,
 ) -> Result<Option<Entities>, Refusal>
     ensures laid { IfOk result (λ o. IsWithProperties (extensions_view extensions.now) (calls_of extensions.now)
-        request_wins (laid_or stored.now laid) (IsActionNamed name.now) (Some (value_view given.now))
-        (laid_or stored.now o)) }
+        ways.entry.request_wins (laid_or stored.now laid) (IsActionNamed ways.entry.action_type.now name.now)
+        (Some (value_view given.now)) (laid_or stored.now o)) }
     ensures refused { IfErr result (IsToldAs (AreWrongProperties (extensions_view extensions.now)
-        (calls_of extensions.now) request_wins (laid_or stored.now laid) (IsActionNamed name.now) (Some (value_view given.now))
+        (calls_of extensions.now) ways.entry.request_wins (laid_or stored.now laid)
+        (IsActionNamed ways.entry.action_type.now name.now) (Some (value_view given.now))
         (codes "$.action.properties"))) }
 {
-    match action_of(alloc, name) {
+    match action_of(alloc, ways.action_type, name) {
         Ok(uid) => lay_over(
             alloc,
             stored,
@@ -154,7 +158,7 @@ fn lay_action(
             uid,
             given,
             "$.action.properties",
-            request_wins,
+            ways.request_wins,
             extensions,
         ),
         Err(AllocError) => {

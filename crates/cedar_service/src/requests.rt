@@ -39,15 +39,16 @@ struct Entities {
 pub(crate) fn request_of(
     alloc: Global,
     question: &Evaluation<'_, '_>,
+    action_type: &str,
     extensions: &Extensions<'_>,
 ) -> Result<Request, Refusal>
     ensures asked { IfOk result (IsAsked (extensions_view extensions.now) (calls_of extensions.now)
-        (evaluation_view question.now)) }
+        action_type.now (evaluation_view question.now)) }
     ensures refused { IfErr result (IsToldAs
         (IsUnasked (extensions_view extensions.now) (calls_of extensions.now) (evaluation_view question.now))) }
 {
-    match entities_of(alloc, question) {
-        Ok(entities) => with_context(alloc, question, entities, extensions),
+    match entities_of(alloc, question, action_type) {
+        Ok(entities) => with_context(alloc, question, action_type, entities, extensions),
         Err(refusal) => Err(refusal),
     }
 }
@@ -55,14 +56,15 @@ pub(crate) fn request_of(
 fn with_context(
     alloc: Global,
     question: &Evaluation<'_, '_>,
+    action_type: &str,
     entities: Entities,
     extensions: &Extensions<'_>,
 ) -> Result<Request, Refusal>
     requires principal { entity_said (named_view question.now.subject) ≡ Ok (uid_name entities.principal) }
     requires resource { entity_said (named_view question.now.resource) ≡ Ok (uid_name entities.resource) }
-    requires action { uid_name entities.action ≡ action_named question.now.action.now }
+    requires action { uid_name entities.action ≡ action_named action_type.now question.now.action.now }
     ensures asked { IfOk result (IsAsked (extensions_view extensions.now) (calls_of extensions.now)
-        (evaluation_view question.now)) }
+        action_type.now (evaluation_view question.now)) }
     ensures refused { IfErr result (IsToldAs
         (IsUnasked (extensions_view extensions.now) (calls_of extensions.now) (evaluation_view question.now))) }
 {
@@ -76,16 +78,20 @@ fn with_context(
 }
 
 // The entities of the request.
-fn entities_of(alloc: Global, question: &Evaluation<'_, '_>) -> Result<Entities, Refusal>
+fn entities_of(
+    alloc: Global,
+    question: &Evaluation<'_, '_>,
+    action_type: &str,
+) -> Result<Entities, Refusal>
     ensures principal { IfOk result (λ e.
         entity_said (named_view question.now.subject) ≡ Ok (uid_name e.principal)) }
     ensures resource { IfOk result (λ e.
         entity_said (named_view question.now.resource) ≡ Ok (uid_name e.resource)) }
-    ensures action { IfOk result (λ e. uid_name e.action ≡ action_named question.now.action.now) }
+    ensures action { IfOk result (λ e. uid_name e.action ≡ action_named action_type.now question.now.action.now) }
     ensures refused { IfErr result (IsToldAs (AreUnnamed (evaluation_view question.now))) }
 {
     match entity_of(alloc, question.subject, "$.subject.type") {
-        Ok(principal) => with_resource(alloc, question, principal),
+        Ok(principal) => with_resource(alloc, question, action_type, principal),
         Err(refusal) => Err(refusal),
     }
 }
@@ -93,6 +99,7 @@ fn entities_of(alloc: Global, question: &Evaluation<'_, '_>) -> Result<Entities,
 fn with_resource(
     alloc: Global,
     question: &Evaluation<'_, '_>,
+    action_type: &str,
     principal: EntityUID,
 ) -> Result<Entities, Refusal>
     requires { entity_said (named_view question.now.subject) ≡ Ok (uid_name principal) }
@@ -100,11 +107,11 @@ fn with_resource(
         entity_said (named_view question.now.subject) ≡ Ok (uid_name e.principal)) }
     ensures resource { IfOk result (λ e.
         entity_said (named_view question.now.resource) ≡ Ok (uid_name e.resource)) }
-    ensures action { IfOk result (λ e. uid_name e.action ≡ action_named question.now.action.now) }
+    ensures action { IfOk result (λ e. uid_name e.action ≡ action_named action_type.now question.now.action.now) }
     ensures refused { IfErr result (IsToldAs (AreUnnamed (evaluation_view question.now))) }
 {
     match entity_of(alloc, question.resource, "$.resource.type") {
-        Ok(resource) => with_action(alloc, question, principal, resource),
+        Ok(resource) => with_action(alloc, question, action_type, principal, resource),
         Err(refusal) => {
             drop(principal);
             Err(refusal)
@@ -115,6 +122,7 @@ fn with_resource(
 fn with_action(
     alloc: Global,
     question: &Evaluation<'_, '_>,
+    action_type: &str,
     principal: EntityUID,
     resource: EntityUID,
 ) -> Result<Entities, Refusal>
@@ -124,10 +132,10 @@ fn with_action(
         entity_said (named_view question.now.subject) ≡ Ok (uid_name e.principal)) }
     ensures resource { IfOk result (λ e.
         entity_said (named_view question.now.resource) ≡ Ok (uid_name e.resource)) }
-    ensures action { IfOk result (λ e. uid_name e.action ≡ action_named question.now.action.now) }
+    ensures action { IfOk result (λ e. uid_name e.action ≡ action_named action_type.now question.now.action.now) }
     ensures refused { IfErr result (IsToldAs (AreUnnamed (evaluation_view question.now))) }
 {
-    match action_of(alloc, question.action) {
+    match action_of(alloc, action_type, question.action) {
         Ok(action) => Ok(Entities {
             principal,
             action,

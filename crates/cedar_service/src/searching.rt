@@ -9,6 +9,7 @@ ghost use Rattle.cedar_service.specs.Asked.{has_known_context};
 ghost use Rattle.cedar_service.specs.Brought.{laid_or};
 ghost use Rattle.cedar_service.specs.Engines.{candidates_of, entities_of};
 ghost use Rattle.cedar_service.specs.Searched.{sample, sample_named, part_of, question_of};
+ghost use Rattle.cedar_service.specs.Ways.{ways_view};
 ghost use Rattle.cedar_service.specs.Searched.{IsFound, IsFoundWith, IsFoundOver, IsPageFor, IsListed, IsFindingOf, IsUnfound};
 
 use crate::engine::Engine;
@@ -18,6 +19,7 @@ use crate::opened::opened;
 use crate::properties::laid_over;
 use crate::requests::{has_known_context, request_of};
 use crate::responses::LIMIT;
+use crate::ways::Ways;
 use cedar_authorizer::authorizer::Authorizer;
 use cedar_endpoints::{Evaluation, Finding, Named, Parts, Search};
 use cedar_extensions::Extensions;
@@ -39,35 +41,27 @@ pub(crate) fn search(
     engine: &Engine,
     alloc: Global,
     question: &Search<'_, '_>,
-    request_wins: bool,
+    ways: Ways<'_>,
     after: usize,
     most: usize,
 ) -> Result<Finding, AllocError>
-    ensures { IfOk result (IsFound engine.now request_wins (search_view question.now) after most) }
+    ensures { IfOk result (IsFound engine.now (ways_view ways.entry) (search_view question.now) after most) }
 {
     let extensions = Extensions::all_available();
-    search_with(
-        engine,
-        alloc,
-        question,
-        request_wins,
-        after,
-        most,
-        &extensions,
-    )
+    search_with(engine, alloc, question, ways, after, most, &extensions)
 }
 
 fn search_with(
     engine: &Engine,
     alloc: Global,
     question: &Search<'_, '_>,
-    request_wins: bool,
+    ways: Ways<'_>,
     after: usize,
     most: usize,
     extensions: &Extensions<'_>,
 ) -> Result<Finding, AllocError>
     ensures { IfOk result (IsFoundWith (extensions_view extensions.now) (calls_of extensions.now) engine.now
-        request_wins (search_view question.now) after most) }
+        (ways_view ways.entry) (search_view question.now) after most) }
 {
     let sample = sample_of(question);
     let pages = Pages {
@@ -75,16 +69,8 @@ fn search_with(
         after,
         most,
     };
-    match request_of(alloc, &sample, extensions) {
-        Ok(request) => find_over(
-            engine,
-            alloc,
-            &sample,
-            request_wins,
-            request,
-            pages,
-            extensions,
-        ),
+    match request_of(alloc, &sample, ways.action_type, extensions) {
+        Ok(request) => find_over(engine, alloc, &sample, ways, request, pages, extensions),
         Err(refusal) => unfound(refusal),
     }
 }
@@ -94,15 +80,15 @@ fn find_over(
     engine: &Engine,
     alloc: Global,
     sample: &Evaluation<'_, '_>,
-    request_wins: bool,
+    ways: Ways<'_>,
     request: Request,
     pages: Pages,
     extensions: &Extensions<'_>,
 ) -> Result<Finding, AllocError>
     ensures { IfOk result (IsFoundOver (extensions_view extensions.now) (calls_of extensions.now) engine.now
-        request_wins (evaluation_view sample.now) pages.part request pages.after pages.most) }
+        (ways_view ways.entry) (evaluation_view sample.now) pages.part request pages.after pages.most) }
 {
-    match laid_over(alloc, engine.entities(), sample, request_wins, extensions) {
+    match laid_over(alloc, engine.entities(), sample, ways, extensions) {
         Ok(laid) => find_laid(engine, alloc, laid, request, pages, extensions),
         Err(refusal) => {
             drop(request);

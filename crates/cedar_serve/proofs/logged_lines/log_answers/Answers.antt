@@ -2,6 +2,7 @@ use Rattle.std.specs.Io.Buffered.{reader_remaining}
 use Rattle.cedar_logged_lines.specs.Lines.{AreAllLogged}
 use Rattle.cedar_service.specs.Decided.{IsAuthorized}
 use Rattle.cedar_service.specs.Loaded.{engine_of}
+use Rattle.cedar_service.specs.Ways.{ways_view}
 use Rattle.cedar_service.specs.Serving.{loaded_version}
 use Rattle.cedar_serve.specs.Logged.{AreLoggedFrom}
 use Rattle.cedar_serve.proofs.Composed.{on_ok}
@@ -15,6 +16,6 @@ returns-in-Ok-clause-answered g c =
     let k = g.L.Write.contents c.args.log in
     let m = g.L.Write.contents c.log_loaded.result.0 in
     on_ok (AreAllLogged (IsAuthorized (engine_of c.in-Ok.loaded)) (loaded_version c.in-Ok.loaded) r w v k m)
-    (AreLoggedFrom c.args.texts.policies.now c.args.texts.entities.now c.args.texts.request_wins r w v k m)
+    (AreLoggedFrom c.args.texts.policies.now c.args.texts.entities.now (ways_view c.args.texts.ways) r w v k m)
     (λ h. record { loaded = c.in-Ok.loaded; is_of = c.in-Ok.ensures.loaded; all = h })
     c.log_loaded.result.1 c.log_loaded.ensures.answered

@@ -2,6 +2,7 @@ use Rattle.http_server.specs.History.{History}
 use Rattle.std.proofs.Common.{◌≡◌, option_map}
 use Rattle.std.specs.Io.KnownBytes.{Appends, Consumes}
 use Rattle.cedar_service.specs.Loaded.{both_texts}
+use Rattle.cedar_service.specs.Ways.{ways_view}
 use Rattle.cedar_serve.specs.Connections.{IsServedBy, IsServedFrom}
 use Rattle.cedar_serve.proofs.Ended.{if_served}
 use Rattle.cedar_serve.proofs.serving.serve_texts.Goals as goal
@@ -13,7 +14,7 @@ returns-in-Ok-clause-served g c =
     × Consumes (g.R.Read.remaining c.args.reader.now) (g.R.Read.remaining c.serve_with.new.reader) h.received
     × Appends (g.W.Write.contents c.args.writer.now) (g.W.Write.contents c.serve_with.new.writer) h.sent)
     (λ h. IsServedFrom c.args.texts.policies.now c.args.texts.entities.now
-    (option_map (λ u. u.now) c.args.texts.url) c.args.texts.page c.args.texts.allows_reload c.args.texts.request_wins
+    (option_map (λ u. u.now) c.args.texts.url) c.args.texts.page c.args.texts.allows_reload (ways_view c.args.texts.ways)
     c.args.config h
     × Consumes (g.R.Read.remaining c.args.reader.now) (g.R.Read.remaining c.serve_with.new.reader) h.received
     × Appends (g.W.Write.contents c.args.writer.now) (g.W.Write.contents c.serve_with.new.writer) h.sent)
@@ -26,7 +27,7 @@ returns-in-Ok-clause-served g c =
         page_is = c.in-Ok.ensures.page;
         reload_is = c.in-Ok.ensures.reload;
         answered = served.answered (both_texts c.args.texts.policies.now c.args.texts.entities.now
-            c.args.texts.request_wins) c.in-Ok.ensures.engine;
+            (ways_view c.args.texts.ways)) c.in-Ok.ensures.engine;
         sent = served.sent;
       },
       read,

@@ -4,6 +4,7 @@ use Rattle.cedar_endpoints.specs.Asked.{evaluation_view}
 use Rattle.cedar_service.specs.Standard.{standard_extensions}
 use Rattle.cedar_service.specs.Decided.{IsDecided, IsDecidedWith}
 use Rattle.cedar_service.proofs.Alone.{calls_alone, view_alone}
+use Rattle.cedar_service.specs.Ways.{ways_view}
 use Rattle.cedar_service.proofs.Composed.{of_ok}
 use Rattle.cedar_service.proofs.deciding.decide.Goals as goal
 
@@ -14,7 +15,7 @@ returns c =
     let there = c.all_available-extensions.ensures.standard in
     let e = c.args.engine.now in
     let q = (evaluation_view c.args.question.now) in
-    let w = c.args.request_wins in
+    let w = ways_view c.args.ways in
     of_ok (IsDecidedWith (extensions_view x) (calls_of x) e w q) (IsDecided e w q)
     (λ o h.
     subst (λ calls. IsDecidedWith standard_extensions calls e w q o) (calls_alone x none there)

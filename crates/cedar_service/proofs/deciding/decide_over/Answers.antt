@@ -7,6 +7,7 @@ use Rattle.cedar_service.specs.Decided.{IsAnswered, IsRefusalOf, IsDecidedOver, 
 use Rattle.cedar_service.specs.Engines.{entities_of}
 use Rattle.cedar_service.specs.Faults.{IsToldAs}
 use Rattle.cedar_service.specs.Properties.{IsAskedOver, AreUnlaid}
+use Rattle.cedar_service.specs.Ways.{ways_view}
 use Rattle.cedar_service.proofs.Composed.{of_ok}
 use Rattle.cedar_service.proofs.Responding.{refused_as}
 use Rattle.cedar_service.proofs.deciding.decide_over.Goals as goal
@@ -15,7 +16,7 @@ pub returns-in-Ok : goal.returns-in-Ok
 returns-in-Ok g c =
     let x = c.args.extensions.now in
     let e = c.args.engine.now in
-    let w = c.args.request_wins in
+    let w = ways_view c.args.ways in
     let q = evaluation_view c.args.question.now in
     let s = laid_or (entities_of e) c.in-Ok.laid in
     of_ok (IsAnswered (extensions_view x) (calls_of x) e s c.args.request)
@@ -28,7 +29,7 @@ pub returns-in-Err : goal.returns-in-Err
 returns-in-Err g c =
     let x = c.args.extensions.now in
     let e = c.args.engine.now in
-    let w = c.args.request_wins in
+    let w = ways_view c.args.ways in
     let q = evaluation_view c.args.question.now in
     of_ok (IsRefusalOf c.in-Err.refusal) (IsDecidedOver (extensions_view x) (calls_of x) e w q c.args.request)
     (λ o h. not_laid (refused_as (AreUnlaid (extensions_view x) (calls_of x) w (entities_of e) q) c.in-Err.refusal o

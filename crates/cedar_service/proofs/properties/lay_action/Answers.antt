@@ -12,22 +12,22 @@ pub returns-in-Ok-clause-laid : goal.returns-in-Ok-clause-laid
 returns-in-Ok-clause-laid g c =
     let x = c.args.extensions.now in
     let s = c.args.stored.now in
-    let w = c.args.request_wins in
+    let w = c.args.ways.request_wins in
     let b = laid_or s c.args.laid in
     let j = value_view c.args.given.now in
     let n = uid_name c.in-Ok.uid in
     of_ok (λ o. IsLaidAs (extensions_view x) (calls_of x) w b n j (laid_or s o))
-    (λ o. IsWithProperties (extensions_view x) (calls_of x) w b (IsActionNamed c.args.name.now) (Some j) (laid_or s o))
+    (λ o. IsWithProperties (extensions_view x) (calls_of x) w b (IsActionNamed c.args.ways.action_type.now c.args.name.now) (Some j) (laid_or s o))
     (λ o h. (n, c.in-Ok.ensures, h)) c.lay_over.result c.lay_over.ensures.laid
 
 pub returns-in-Ok-clause-refused : goal.returns-in-Ok-clause-refused
 returns-in-Ok-clause-refused g c =
     let x = c.args.extensions.now in
-    let w = c.args.request_wins in
+    let w = c.args.ways.request_wins in
     let b = laid_or c.args.stored.now c.args.laid in
     let j = value_view c.args.given.now in
     let n = uid_name c.in-Ok.uid in
     let Un = IsUnlaid (extensions_view x) (calls_of x) w b n j (codes "$.action.properties") in
-    let Wrong = AreWrongProperties (extensions_view x) (calls_of x) w b (IsActionNamed c.args.name.now) (Some j) (codes "$.action.properties") in
+    let Wrong = AreWrongProperties (extensions_view x) (calls_of x) w b (IsActionNamed c.args.ways.action_type.now c.args.name.now) (Some j) (codes "$.action.properties") in
     of_err (IsToldAs Un) (IsToldAs Wrong) (because Un Wrong (λ u h. (n, c.in-Ok.ensures, h)))
     c.lay_over.result c.lay_over.ensures.refused

@@ -5,6 +5,7 @@ use Rattle.cedar_service.specs.Brought.{laid_or}
 use Rattle.cedar_service.specs.Faults.{IsToldAs}
 use Rattle.cedar_service.specs.Properties.{IsNamedAs, IsActionNamed, IsWithProperties, AreWrongProperties, AreWrongOfNamed}
 use Rattle.cedar_service.specs.Properties.{IsAskedWithAction, IsActionUnlaid, of_action, of_resource}
+use Rattle.cedar_service.specs.Ways.{ways_view}
 use Rattle.cedar_service.proofs.Composed.{of_ok, of_err, because}
 use Rattle.cedar_service.proofs.properties.with_action.Goals as goal
 
@@ -12,11 +13,11 @@ pub returns-in-Ok-clause-laid : goal.returns-in-Ok-clause-laid
 returns-in-Ok-clause-laid g c =
     let x = c.args.extensions.now in
     let s = c.args.stored.now in
-    let w = c.args.request_wins in
+    let w = ways_view c.args.ways in
     let q = evaluation_view c.args.question.now in
     let b = laid_or s c.args.laid in
     let t = laid_or s c.in-Ok.laid in
-    of_ok (λ o. IsWithProperties (extensions_view x) (calls_of x) w t (IsNamedAs q.resource) q.properties.resource (laid_or s o))
+    of_ok (λ o. IsWithProperties (extensions_view x) (calls_of x) w.request_wins t (IsNamedAs q.resource) q.properties.resource (laid_or s o))
     (λ o. IsAskedWithAction (extensions_view x) (calls_of x) w b q (laid_or s o))
     (λ o h. record { with_action = t; action = c.in-Ok.ensures.laid; resource = h }) c.with_named.result
     c.with_named.ensures.laid
@@ -25,11 +26,11 @@ pub returns-in-Ok-clause-refused : goal.returns-in-Ok-clause-refused
 returns-in-Ok-clause-refused g c =
     let x = c.args.extensions.now in
     let s = c.args.stored.now in
-    let w = c.args.request_wins in
+    let w = ways_view c.args.ways in
     let q = evaluation_view c.args.question.now in
     let b = laid_or s c.args.laid in
     let t = laid_or s c.in-Ok.laid in
-    let Wrong = AreWrongOfNamed (extensions_view x) (calls_of x) w t q.resource (codes "$.resource.type") q.properties.resource
+    let Wrong = AreWrongOfNamed (extensions_view x) (calls_of x) w.request_wins t q.resource (codes "$.resource.type") q.properties.resource
     (codes "$.resource.properties") in
     of_err (IsToldAs Wrong) (IsToldAs (IsActionUnlaid (extensions_view x) (calls_of x) w b q))
     (because Wrong (IsActionUnlaid (extensions_view x) (calls_of x) w b q) (λ u h. of_resource t c.in-Ok.ensures.laid h))
@@ -39,8 +40,8 @@ pub returns-in-Err-clause-refused : goal.returns-in-Err-clause-refused
 returns-in-Err-clause-refused g c =
     let x = c.args.extensions.now in
     let s = c.args.stored.now in
-    let w = c.args.request_wins in
+    let w = ways_view c.args.ways in
     let q = evaluation_view c.args.question.now in
     let b = laid_or s c.args.laid in
-    because (AreWrongProperties (extensions_view x) (calls_of x) w b (IsActionNamed q.action) q.properties.action (codes "$.action.properties"))
+    because (AreWrongProperties (extensions_view x) (calls_of x) w.request_wins b (IsActionNamed w.action_type q.action) q.properties.action (codes "$.action.properties"))
     (IsActionUnlaid (extensions_view x) (calls_of x) w b q) (λ u h. of_action h) c.in-Err.refusal c.in-Err.ensures.refused

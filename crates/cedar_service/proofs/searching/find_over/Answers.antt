@@ -7,6 +7,7 @@ use Rattle.cedar_service.specs.Engines.{entities_of}
 use Rattle.cedar_service.specs.Faults.{IsToldAs}
 use Rattle.cedar_service.specs.Properties.{IsAskedOver, AreUnlaid}
 use Rattle.cedar_service.specs.Searched.{IsPageFor, IsUnfound, IsFoundOver, laid, not_laid}
+use Rattle.cedar_service.specs.Ways.{ways_view}
 use Rattle.cedar_service.proofs.Composed.{of_ok}
 use Rattle.cedar_service.proofs.Unfound.{unfound_as}
 use Rattle.cedar_service.proofs.searching.find_over.Goals as goal
@@ -18,9 +19,9 @@ returns-in-Ok g c =
     let p = c.args.pages in
     let s = laid_or (entities_of e) c.in-Ok.laid in
     of_ok (IsPageFor (extensions_view x) (calls_of x) e s p.part c.args.request p.after p.most)
-    (IsFoundOver (extensions_view x) (calls_of x) e c.args.request_wins (evaluation_view c.args.sample.now) p.part
+    (IsFoundOver (extensions_view x) (calls_of x) e (ways_view c.args.ways) (evaluation_view c.args.sample.now) p.part
     c.args.request p.after p.most) (λ f h. laid s
-    (subst (λ (b : Entities). IsAskedOver (extensions_view x) (calls_of x) c.args.request_wins b (evaluation_view c.args.sample.now)
+    (subst (λ (b : Entities). IsAskedOver (extensions_view x) (calls_of x) (ways_view c.args.ways) b (evaluation_view c.args.sample.now)
     (laid_or b c.in-Ok.laid)) c.entities.ensures c.in-Ok.ensures.laid) h) c.find_laid.result c.find_laid.ensures
 
 pub returns-in-Err : goal.returns-in-Err
@@ -28,7 +29,7 @@ returns-in-Err g c =
     let x = c.args.extensions.now in
     let e = c.args.engine.now in
     let p = c.args.pages in
-    let w = c.args.request_wins in
+    let w = ways_view c.args.ways in
     let q = evaluation_view c.args.sample.now in
     of_ok (IsUnfound c.in-Err.refusal)
     (IsFoundOver (extensions_view x) (calls_of x) e w q p.part c.args.request p.after p.most)

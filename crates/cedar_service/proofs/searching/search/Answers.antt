@@ -4,6 +4,7 @@ use Rattle.cedar_endpoints.specs.Searches.{search_view}
 use Rattle.cedar_service.specs.Standard.{standard_extensions}
 use Rattle.cedar_service.specs.Searched.{IsFound, IsFoundWith}
 use Rattle.cedar_service.proofs.Alone.{calls_alone, view_alone}
+use Rattle.cedar_service.specs.Ways.{ways_view}
 use Rattle.cedar_service.proofs.Composed.{of_ok}
 use Rattle.cedar_service.proofs.searching.search.Goals as goal
 
@@ -14,7 +15,7 @@ returns c =
     let there = c.all_available-extensions.ensures.standard in
     let e = c.args.engine.now in
     let q = search_view c.args.question.now in
-    let w = c.args.request_wins in
+    let w = ways_view c.args.ways in
     let after = c.args.after in
     let most = c.args.most in
     of_ok (IsFoundWith (extensions_view x) (calls_of x) e w q after most) (IsFound e w q after most)
