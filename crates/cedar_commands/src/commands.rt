@@ -195,6 +195,20 @@ fn no_values<'a>(alloc: Global) -> Result<Arg<'a>, AllocError> {
 }
 
 fn partially_authorize<'a>(alloc: Global) -> Result<Command<'a>, AllocError> {
+    let command = Command::new(alloc, "partially-authorize")
+        .about("What is known of the decision where parts are unknown: those that are not given")
+        .arg(policies_or_line(alloc)?)?
+        .arg(save(alloc)?)?
+        .arg(resume(alloc)?)?
+        .arg(policy_format(alloc))?
+        .arg(template_linked(alloc))?
+        .arg(error_handling(alloc))?
+        .arg(limit(alloc))?;
+    with_request(alloc, with_stages(alloc, command)?)
+}
+
+// The command with the arguments of steps and rows, and of what is not all known.
+fn with_stages<'a>(alloc: Global, command: Command<'a>) -> Result<Command<'a>, AllocError> {
     let partial = flag(
         alloc,
         "partial",
@@ -207,15 +221,7 @@ fn partially_authorize<'a>(alloc: Global) -> Result<Command<'a>, AllocError> {
     );
     let principal_type = option(alloc, "principal-type", "TYPE", "The type of who asks");
     let resource_type = option(alloc, "resource-type", "TYPE", "The type of the resource");
-    let command = Command::new(alloc, "partially-authorize")
-        .about("What is known of the decision where parts are unknown: those that are not given")
-        .arg(policies_or_line(alloc)?)?
-        .arg(save(alloc)?)?
-        .arg(resume(alloc)?)?
-        .arg(policy_format(alloc))?
-        .arg(template_linked(alloc))?
-        .arg(error_handling(alloc))?
-        .arg(limit(alloc))?
+    command
         .arg(partial)?
         .arg(step(alloc))?
         .arg(partial_step)?
@@ -223,8 +229,7 @@ fn partially_authorize<'a>(alloc: Global) -> Result<Command<'a>, AllocError> {
         .arg(sql(alloc)?)?
         .arg(candidates(alloc)?)?
         .arg(principal_type.conflicts_with("principal")?)?
-        .arg(resource_type.conflicts_with("resource")?)?;
-    with_request(alloc, command)
+        .arg(resource_type.conflicts_with("resource")?)
 }
 
 fn policies_or_line<'a>(alloc: Global) -> Result<Arg<'a>, AllocError> {
