@@ -125,6 +125,7 @@ abbrev pub IsLeft : Leaves → Text → Said Partial → Reply → Type 0
 IsLeft leaves text (Err f) r = IsFault statuses.BadRequest f r
 IsLeft leaves text (Ok q) r = (o : Remainder) × leaves q text o × IsRemainder o r
 
--- the request of the document that the text writes is answered, if it says one, with its id, which stands for nothing else
+-- the request of the document that the text writes is answered, if it says one, with its id, which stands for nothing
+-- else
 abbrev pub IsPartlyAnswered : Leaves → Text → Json → Reply → Type 0
 IsPartlyAnswered leaves text j r = HandsBack (given_id j) (IsLeft leaves text (partial_said j)) r

@@ -28,8 +28,8 @@ pub record IsServedBy (s : Decisions Loaded) (config : Config) (h : History) : T
 -- The same of a service that decides as the policies and the entities do that these texts say, and tells where it is,
 -- if that is given; whose pages have so many at most; which takes others in their place, or does not; and takes
 -- evaluations so.
-pub record IsServedFrom (policies entities : Text) (url : Option Text) (page : ℕ) (allows : Bool) (w : Ways) (config : Config)
-    (h : History) : Type 0 where
+pub record IsServedFrom (policies entities : Text) (url : Option Text) (page : ℕ) (allows : Bool) (w : Ways)
+    (config : Config) (h : History) : Type 0 where
   pub service : Decisions Loaded
   pub last : Decisions Loaded
   pub metadata : option_map string_bytes service.metadata ≡ option_map metadata_text url

@@ -37,8 +37,8 @@ pub record IsLoggedBy (s : Decisions Loaded) (config : Config) (before after : K
 -- The same of a service that decides as the policies and the entities do that these texts say, and tells where it is,
 -- if that is given; whose pages have so many at most; which takes others in their place, or does not; and takes
 -- evaluations so.
-pub record IsLoggedFrom (policies entities : Text) (url : Option Text) (page : ℕ) (allows : Bool) (w : Ways) (config : Config)
-    (before after : Known) (h : History) : Type 0 where
+pub record IsLoggedFrom (policies entities : Text) (url : Option Text) (page : ℕ) (allows : Bool) (w : Ways)
+    (config : Config) (before after : Known) (h : History) : Type 0 where
   pub service : Decisions Loaded
   pub due : List Call
   pub last : Decisions Loaded

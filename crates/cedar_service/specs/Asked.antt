@@ -43,7 +43,8 @@ IsContextFor X calls None c = context_view c ≡ known_context no_represented_at
 IsContextFor X calls (Some j) c = IsContextOf X calls levels (context_said j) c
 
 -- the request of the subject, the action, which is of this type, and the resource, in that context
-pub record IsAsked (X : world.Extensions) (calls : StoredCalls) (ty : Text) (q : Evaluation) (r : Request) : Type 0 where
+pub record IsAsked (X : world.Extensions) (calls : StoredCalls) (ty : Text) (q : Evaluation) (r : Request)
+    : Type 0 where
   pub principal : EntityName
   pub resource : EntityName
   pub context : Context

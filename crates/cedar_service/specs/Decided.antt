@@ -106,7 +106,8 @@ pub data IsDecidedOver (X : world.Extensions) (calls : StoredCalls) (e : Engine)
 -- what is decided: that, for the request that is asked; or why none is
 pub data IsDecidedWith (X : world.Extensions) (calls : StoredCalls) (e : Engine) (w : Ways) (q : Evaluation)
     (o : Outcome) : Type 0 where
-  asked : (r : Request) → IsAsked X calls w.action_type q r → IsDecidedOver X calls e w q r o → IsDecidedWith X calls e w q o
+  asked : (r : Request) → IsAsked X calls w.action_type q r → IsDecidedOver X calls e w q r o
+      → IsDecidedWith X calls e w q o
   not_asked : IsRefusedAs (IsUnasked X calls q) o → IsDecidedWith X calls e w q o
 
 -- over this store, what is decided for the request that a text says

@@ -130,7 +130,8 @@ pub data AreWrongOfNamed (X : world.Extensions) (calls : StoredCalls) (wins : Bo
 pub record IsAskedWithAction (X : world.Extensions) (calls : StoredCalls) (w : Ways) (s : Entities) (q : Evaluation)
     (made : Entities) : Type 0 where
   pub with_action : Entities
-  pub action : IsWithProperties X calls w.request_wins s (IsActionNamed w.action_type q.action) q.properties.action with_action
+  pub action : IsWithProperties X calls w.request_wins s (IsActionNamed w.action_type q.action) q.properties.action
+      with_action
   pub resource : IsWithProperties X calls w.request_wins with_action (IsNamedAs q.resource) q.properties.resource made
 
 -- the store with those of the subject, then of the action, then of the resource

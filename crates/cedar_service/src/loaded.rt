@@ -142,7 +142,8 @@ fn made_of(
     ways: Ways<'_>,
 ) -> Result<Loaded, NotRemade>
     ensures made { IfOk result (IsLoadedOf (both_texts policies.now entities.now (ways_view ways.entry))) }
-    ensures refused { IfErr result (IsNotRemade (IsRefusedFor (both_texts policies.now entities.now (ways_view ways.entry)))) }
+    ensures refused { IfErr result (IsNotRemade
+        (IsRefusedFor (both_texts policies.now entities.now (ways_view ways.entry)))) }
 {
     match Loaded::of_texts(alloc, policies, entities, ways) {
         Ok(loaded) => Ok(loaded),
