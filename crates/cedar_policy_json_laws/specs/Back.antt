@@ -91,7 +91,7 @@ abbrev pub AllAreAt : (Term → Type 0) → Fields → Type 0
 AllAreAt P no_fields = ⊤
 AllAreAt P (one_field k t fs) = P t × AllAreAt P fs
 
--- keys are in order, and none comes twice
+-- keys are in order, and none is a duplicate
 abbrev pub AreInOrder : Fields → Type 0
 AreInOrder fs = (first_repeated (keys_of_pairs (pairs_of fs)) ≡ None) × (fields_in_order (pairs_of fs) ≡ fs)
 

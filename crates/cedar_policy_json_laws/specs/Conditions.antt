@@ -30,7 +30,7 @@ conditions_read p =
     ++ moved (resource_scope p) p.resource_constraint)
     ++ moved None p.when_clause
 
--- a policy with these in its condition, and with the entities in the place of its slots
+-- a policy with these in its condition, and with the entities instead of its slots
 abbrev pub with_conditions : PolicyView → PolicyView
 with_conditions p = record p {
   principal_constraint = constraint_read (principal_scope p) p.slots p.principal_constraint;

@@ -43,7 +43,7 @@ IsReadableHead is_open (Some x) = IsReadableScope is_open x
 abbrev pub IsReadableConstraint : Bool → Slots → Variable → Term → Type 0
 IsReadableConstraint is_open s v t = IsReadableHead is_open (scope_of s v t)
 
--- ---- entities in the place of the slots
+-- ---- entities instead of the slots
 
 abbrev pub linked_slot : Slot → Option EntityName → Term
 linked_slot x None = slot x

@@ -41,7 +41,7 @@ AreReadableLinks (l ∷ ls) =
 
 -- ---- sets
 
--- each part can be read, the links make these policies of the templates, and no id comes twice
+-- each part can be read, the links make these policies of the templates, and no id is a duplicate
 pub record IsReadableSet (k : Knowledge) (n : ℕ) (ps ts : List PolicyView) (ls : List Link) (made : List PolicyView)
     : Type 0 where
   pub policies_are : AreReadable false k n ps

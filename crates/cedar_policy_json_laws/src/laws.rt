@@ -34,7 +34,7 @@ pub fn annotations_read_back(annotations: &Annotations)
 /// What is written of a constraint on this variable that stands in a scope reads back as itself, where types have the
 /// names of types: `true`, and for the variable `v` and an entity `E` `v == E` and `v in E`, beside the action
 /// `v in [E, ..]`, and beside the principal and the resource `v is T` and `v is T && v in E`. In a template the
-/// variable's own slot may stand in the place of `E`; where a slot is linked to an entity, it reads back as that
+/// variable's own slot may stand instead of `E`; where a slot is linked to an entity, it reads back as that
 /// entity.
 pub fn scopes_read_back(var: Var, constraint: &Expr)
     ensures itself { ScopeReadsBack (variable_view var) (view constraint.now) }
@@ -44,7 +44,7 @@ pub fn scopes_read_back(var: Var, constraint: &Expr)
 /// What is written of a policy of which no slot is linked reads back as the policy, where it is read under its id: the
 /// same effect, annotations, constraints and condition, where the constraints stand in the scope and each part reads
 /// back. A condition that is `true` is not written, and reads back too. A policy that is linked reads back as the one
-/// with the entities in the place of the slots.
+/// with the entities instead of the slots.
 pub fn policies_read_back(policy: &Policy)
     ensures itself { PolicyReadsBack (policy_view policy.now) }
     ensures linked { LinkedPolicyReadsBack (policy_view policy.now) }
@@ -67,7 +67,7 @@ pub fn templates_read_back(template: &Policy)
 
 /// What is written of policies, templates and links reads back as these, with the policies that the links make of the
 /// templates behind the others, where each part reads back, none of the policies and templates is linked, the links
-/// make policies of these templates, and no id comes twice.
+/// make policies of these templates, and no id is a duplicate.
 pub fn policy_sets_read_back(policies: &PolicySet, templates: &[Policy], links: &[TemplateLink])
     ensures { PolicySetReadsBack (policies_view policies.now) (map policy_view templates.now)
         (map link_view links.now) }

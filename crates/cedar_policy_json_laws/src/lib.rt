@@ -14,7 +14,7 @@
 //! characters of patterns characters, and the keys of records in order, and where no slot stands in it; and annotations
 //! do, where their keys are words in the order of their bytes. A policy or a template that is written reads back as
 //! itself, under its id, where its three constraints stand in the scope and each part reads back; a policy that is
-//! linked, with the entities in the place of its slots; and a set of them, where no id comes twice, with the policies
+//! linked, with the entities instead of its slots; and a set of them, where no id is a duplicate, with the policies
 //! that its links make. A constraint that no scope has is written as a condition, and reads back in the policy's
 //! condition, which then means the same.
 #![tactic(auto)]
