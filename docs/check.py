@@ -3,7 +3,7 @@
 
 It looks at README.md, CONTRIBUTING.md, CHANGELOG.md, docs/*.md and attacks/README.md:
 
-- each clause that README's seven sentences name, as "Clauses `a`, `b` of `F`, `FILE`", stands in the contract of F in FILE;
+- each clause that PROVED's seven sentences name, as "Clauses `a`, `b` of `F`, `FILE`", stands in the contract of F in FILE;
 - each file, folder, link and anchor that is named is there; each name of the code in backquotes stands in some file of the repository,
   and each `a` of `b`, where b is a function or a crate, in that function's contract or in that crate;
 - counts of rows and runs are those of the `stdout` files, and the number of crates is that of crates.txt;
@@ -11,9 +11,10 @@ It looks at README.md, CONTRIBUTING.md, CHANGELOG.md, docs/*.md and attacks/READ
   each file of `specs/` or `src/` that they name is there;
 - each block of Rust behind "From `FILE`:" is that of the file;
 - docs/CONTRACTS.md is what docs/contracts.py makes, docs/HEADLINE.md what docs/headline.py makes, docs/flow.svg what
-  docs/flow.py draws, and README shows what `cedar` prints;
+  docs/flow.py draws (docs/samples.py compares what the documents show);
+- each file with an `unsafe` is named in docs/MODEL.md;
 - of each edit in attacks/ and must-fail/, the text of each `old:` stands once in its file, the edits before it made;
-- no line is longer than 160 characters (rows of tables aside), no paragraph than 600, no cell than 300, README than 130 lines.
+- no line is longer than 160 characters (rows of tables aside), no paragraph than 600, no cell than 300, README than 900 words.
 
 It prints a line for each fault and ends with status 1, or prints one line of what it looked at."""
 import glob
@@ -68,7 +69,7 @@ def sources():
         found |= set(path.split("/")[3:-1])
         by_crate.setdefault(path.split("/")[1], set()).update(found)
         words |= found
-    for path in files("attacks/**/*", "docs/*.py", ".ci/run", "crates.txt", "HANDLES"):
+    for path in files("attacks/**/*", "docs/*.py", ".ci/run", "check", "crates.txt", "HANDLES"):
         words |= set(re.findall(r"\w+", read(path))) | {os.path.basename(path).split(".")[0]}
     return by_crate, words
 
@@ -149,19 +150,19 @@ def names(page, text, by_crate, words, functions):
 
 
 def sentences(text):
-    """README's numbered sentences name clauses that are there."""
-    part = text.partition("## What is proved")[2].partition("\n## ")[0]
+    """PROVED's numbered sentences name clauses that are there."""
+    part = text.partition("## In seven sentences")[2].partition("\n## ")[0]
     told = [" ".join(it.split()) for it in re.findall(r"^\d+\. (.*?)(?=^\d+\. |^\S|\Z)", part, re.S | re.M)]
-    wants(len(told) == 7, f"README.md: seven sentences, and not {len(told)}")
+    wants(len(told) == 7, f"docs/PROVED.md: seven sentences, and not {len(told)}")
     for number, sentence in enumerate(told, 1):
         named = NAMED.findall(sentence)
-        wants(named or "No clause" in sentence or "The clauses in" in sentence, f"README.md: sentence {number} names no clause")
+        wants(named or "No clause" in sentence or "The clauses in" in sentence, f"docs/PROVED.md: sentence {number} names no clause")
         for clauses, function, path in named:
             body = read(path) if os.path.isfile(f"{ROOT}/{path}") else ""
             found = re.search(rf"\bfn {function.split('::')[-1]}\b.*?\n\s*\{{\}}?\n", body, re.S)
             for clause in re.findall(r"`(\w+)`", clauses):
                 seen["clauses"] += 1
-                wants(found and f"ensures {clause} {{" in found.group(), f"README.md: sentence {number}: {clause} of {function} in {path}")
+                wants(found and f"ensures {clause} {{" in found.group(), f"docs/PROVED.md: sentence {number}: {clause} of {function} in {path}")
 
 
 def total(crate):
@@ -255,8 +256,11 @@ def main():
         names(page, text, by_crate, words, functions)
         counts(page, text, crates)
         quotes(page, text)
-    sentences(read("README.md"))
-    wants(len(read("README.md").splitlines()) <= 130, "README.md: more than 130 lines")
+    sentences(read("docs/PROVED.md"))
+    wants(len(read("README.md").split()) <= 900, f"README.md: {len(read('README.md').split())} words, and at most 900")
+    for path in files("crates/*/src/**/*.rt"):
+        if re.search(r"^(?!\s*//).*\bunsafe\b", read(path), re.M):
+            wants(f"`{path[len('crates/'):]}`" in read("docs/MODEL.md"), f"docs/MODEL.md: the `unsafe` in {path} is not named")
     heads(crates)
     try:
         made, calls = contracts.page(house)
@@ -266,8 +270,6 @@ def main():
     wants(read("docs/CONTRACTS.md") == made, "docs/CONTRACTS.md: not what docs/contracts.py makes: run it")
     wants(read("docs/HEADLINE.md") == headline.page(), "docs/HEADLINE.md: not what docs/headline.py makes: run it")
     wants(read("docs/flow.svg") == flow.picture(), "docs/flow.svg: not what docs/flow.py draws: run it")
-    for line in read("crates/cedar/stdout").splitlines():
-        wants(not line or f"\n    {line}\n" in read("README.md"), f"README.md: the sample prints: {line}")
     edits()
     for it in faults:
         print(f"docs/check: {it}")

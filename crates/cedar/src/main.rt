@@ -7,8 +7,8 @@
 //! The statuses 1 and 3 are set here: `REFUSED`, where a question is not answered or its answer can't be printed, and
 //! `OUT_OF_MEMORY`. The others come with the answer.
 //!
-//! The promise is the checker's alone: the program stays within its memory and comes to an end. The sample of README
-//! is in `data/`, and what is printed of it is compared with README's text.
+//! The promise is the checker's alone: the program stays within its memory and comes to an end. The files of the
+//! samples of README and COMMANDS are in `data/`: what these print is compared with what the pages show.
 #![tactic(auto)]
 
 use cedar_commands::{Answer, answer_command};

@@ -1,0 +1,7 @@
+@id("owner")
+permit(principal, action, resource)
+when { resource.owner == principal };
+
+@id("sealed")
+forbid(principal, action, resource)
+when { resource.status == "sealed" };

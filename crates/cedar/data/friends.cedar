@@ -1,0 +1,2 @@
+@id("friends")
+permit(principal in ?principal, action, resource == ?resource);
