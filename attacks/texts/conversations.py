@@ -564,7 +564,7 @@ PROPERTIES = [
 ]
 
 
-# With `--request-attributes-win`, which the conversation is not started with.
+# With `--request-properties win`, which the conversation is not started with.
 WINNING = [
     HERE.evaluates("the owner of a request", by(BOB, "delete", PLAN, of_resource={"owner": {"__entity": said(BOB)}}), True),
     HERE.evaluates("the owner that is stored, then", by(BOB, "delete", PLAN)),
@@ -1014,7 +1014,7 @@ def run(program):
         check("the same in pieces", [sent[a:b] for a, b in zip([0, *cuts], [*cuts, len(sent)])], wanted)
     for what, last, ends in LAST:
         check(what, [request("POST", EVALUATION, GOOD) + last], due(200, GOOD_DUE) + ends)
-    check("the request wins", [it[1] for it in WINNING], b"".join(it[2] for it in WINNING), [*options(), "--request-attributes-win"])
+    check("the request wins", [it[1] for it in WINNING], b"".join(it[2] for it in WINNING), ["win" if it == "beside" else it for it in options()])
     with tempfile.TemporaryDirectory() as folder:
         typed = os.path.join(folder, "typed.cedar")
         with open(typed, "wb") as it:

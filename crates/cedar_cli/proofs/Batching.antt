@@ -24,10 +24,10 @@ use Rattle.cedar_cli.specs.declared.refusal.Refusal.{Refusal}
 use Rattle.cedar_cli.specs.declared.refusal.Refusal.TheVariants as refusals
 use Rattle.cedar_cli.specs.Authorized.{IsAnsweredOver, IsAuthorized}
 use Rattle.cedar_cli.specs.Batch.{asking, LineAnswer, IsRefusalLine, IsAnswerAs, IsAnswer, AreAnswers, is_any_refused, AreAnswered, IsTold, line_of_answer}
-use Rattle.cedar_cli.specs.Questions.{levels, IsGivenStore}
+use Rattle.cedar_cli.specs.Questions.{levels, IsKnownStore}
 use Rattle.cedar_cli.specs.Reasons.{IsToldFor}
 use Rattle.cedar_cli.specs.Standard.{standard_extensions, standard_calls, standard_knowledge}
-use Rattle.cedar_cli.proofs.Exact.{exactly}
+use Rattle.cedar_cli.proofs.Exact.{exactly, none_unknown}
 use Rattle.cedar_cli.proofs.Stepping.{assoc_one, append_none}
 use Rattle.cedar_cli.proofs.Words.{allowed_exactly}
 
@@ -174,11 +174,12 @@ module _ (A B : Asked → Printed → Type 0) (Unread : Asked → Type 0) (q : A
 module _ (calls : ReadPoliciesCallKnown) (ask : AskNothing) (agree : AgreesWithFunctions standard_answers standard_calls)
     (text : Text) (parsed : ParsedPolicies) (read : AreAllRead standard_knowledge text levels parsed)
     (low : AreAllNoHigher (with_scope levels) parsed) (s : Entities) (w : Way) where
-  pub authorized_alone : (q : Asked) (p : Printed) → IsGivenStore standard_extensions standard_calls q s
+  pub authorized_alone : (q : Asked) (p : Printed) → IsKnownStore standard_extensions standard_calls q s
       → IsAnsweredOver standard_extensions standard_calls text parsed.policies s q w p → IsAuthorized text q w p
   authorized_alone q p store by =
+      let nothing = none_unknown standard_extensions standard_calls q s by.request store by.request_is in
       let exact = exactly calls ask agree standard_knowledge text parsed read low s by.request w
-      (response_view by.response) by.response_is in
+      (response_view by.response) by.response_is nothing in
       record {
         parsed = parsed;
         entities = s;
@@ -187,6 +188,7 @@ module _ (calls : ReadPoliciesCallKnown) (ask : AskNothing) (agree : AgreesWithF
         policies_are = read;
         store_is = store;
         request_is = by.request_is;
+        nothing_unknown = nothing;
         response_is = by.response_is;
         exact = exact;
         printed = by.printed;

@@ -22,6 +22,12 @@ pub of_ok : {A E : Type 0} (P Q : A → Type 0) → ((a : A) → P a → Q a) �
 of_ok P Q f (Ok a) h = f a h
 of_ok P Q f (Err e) h = tt
 
+-- in two ways
+pub of_two : {A E : Type 0} (P Q R : A → Type 0) → ((a : A) → P a → Q a → R a) → (r : Result A E) → IfOk r P → IfOk r Q
+    → IfOk r R
+of_two P Q R f (Ok a) h k = f a h k
+of_two P Q R f (Err e) h k = tt
+
 -- and of each refusal
 pub of_err : {A E : Type 0} (P Q : E → Type 0) → ((e : E) → P e → Q e) → (r : Result A E) → IfErr r P → IfErr r Q
 of_err P Q f (Ok a) h = tt

@@ -5,7 +5,9 @@ use Rattle.std.specs.Option.{unwrap_or}
 use Rattle.cedar_model.specs.Terms.{Text, ValueType}
 use Rattle.cedar_model.specs.Values.{AbstractValue}
 use Rattle.cedar_model.specs.World.{function_asks}
-use Rattle.cedar_model.specs.Agreement.{AgreesWithFunctions}
+use Rattle.cedar_model.specs.World as world
+use Rattle.cedar_model.specs.Rules.{StoredCalls}
+use Rattle.cedar_model.specs.Agreement.{AgreesWithFunctions, HasNothingUnknown}
 use Rattle.cedar_model.specs.Authorizations.{Authorized, AreNoHigher}
 use Rattle.cedar_decisions.specs.Decisions.{mode_view}
 use Rattle.cedar_functions.specs.Functions.{Knowledge}
@@ -19,10 +21,11 @@ use Rattle.cedar_standard_functions.specs.Laws.{AskNothing}
 use Rattle.cedar_standard_functions.specs.Standard.{made_by, standard_named, standard_answers}
 use Rattle.cedar_standard_functions.specs.declared.function.StandardFunction.{StandardFunction}
 use Rattle.cedar_authorizer.specs.Responding.{considered}
+use Rattle.cedar_cli.specs.declared.asked.Asked.{Asked}
 use Rattle.cedar_cli.specs.declared.asked.Way.{Way}
-use Rattle.cedar_cli.specs.Questions.{levels}
+use Rattle.cedar_cli.specs.Questions.{levels, IsKnownStore, IsWholeRequest}
 use Rattle.cedar_cli.specs.Standard.{standard_extensions, standard_calls}
-use Rattle.cedar_cli.specs.Authorized.{limit_in, IsResponseTo, IsExact}
+use Rattle.cedar_cli.specs.Authorized.{limit_in, setting_of, IsResponseTo, IsExact}
 use Rattle.cedar_cli.proofs.Known.{NoneAsks, all_known}
 
 made_asks_nothing : AskNothing → (o : Option StandardFunction) (vs : List AbstractValue) (n : Text)
@@ -37,12 +40,25 @@ none_asks ask = record {
   never = λ f vs n t e. made_asks_nothing ask (standard_named f) vs n t e;
 }
 
+-- nothing is unknown in what is decided
+pub none_unknown : (X : world.Extensions) (calls : StoredCalls) (q : Asked) (s : Entities) (r : Request)
+    → IsKnownStore X calls q s → IsWholeRequest X calls q r → HasNothingUnknown (setting_of X r s)
+none_unknown X calls q s r store request = record {
+  principal_known = request.known.principal;
+  action_known = request.known.action;
+  resource_known = request.known.resource;
+  context_known = request.known.context;
+  store_concrete = store.whole;
+  store_known = store.known;
+}
+
 module _ (calls : ReadPoliciesCallKnown) (ask : AskNothing) (agree : AgreesWithFunctions standard_answers standard_calls) where
   pub exactly : (k : Knowledge) (text : Text) (parsed : ParsedPolicies) → AreAllRead k text levels parsed
       → AreAllNoHigher (with_scope levels) parsed → (s : Entities) (r : Request) (w : Way) (a : Authorized)
-      → IsResponseTo standard_extensions standard_calls parsed.policies s r w a → w.limit ≡ None
+      → IsResponseTo standard_extensions standard_calls parsed.policies s r w a
+      → HasNothingUnknown (setting_of standard_extensions r s) → w.limit ≡ None
       → IsExact (mode_view w.error_handling) parsed.policies s r a
-  exactly k text parsed read low s r w a is unlimited nothing sigma =
+  exactly k text parsed read low s r w a is nothing unlimited sigma =
       let known = all_known calls (none_asks ask) parsed read in
       let within : AreNoHigher (considered parsed.policies) (limit_in w.limit) =
       subst (λ n. AreNoHigher (considered parsed.policies) n) (sym (ap (λ o. unwrap_or o 4001) unlimited))

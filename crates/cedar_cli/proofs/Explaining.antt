@@ -145,5 +145,5 @@ begins_exactly v ps r e below p is same = (
 pub allowed_above : (mode : model.ErrorHandling) (ps : PolicySet) (s : Entities) (r : Request) (response : Response)
     (v : Bool) (views : List PolicyView) (below : Text) (p : Printed) → IsExact mode ps s r (response_view response)
     → IsWordAbove v views response below p → IsAllowedExactly mode ps s r (string_bytes p.output)
-allowed_above mode ps s r response v views below p exact printed nothing sigma =
-    begins_exactly v views response _ below p printed (exact nothing sigma).decision_is
+allowed_above mode ps s r response v views below p exact printed sigma =
+    begins_exactly v views response _ below p printed (exact sigma).decision_is

@@ -3,6 +3,8 @@ pub mod Alone
 pub mod Batching
 pub mod Composed
 pub mod Known
+pub mod KnownStores
+pub mod KnownRequests
 pub mod Exact
 pub mod Lines
 pub mod Unbroken

@@ -42,10 +42,10 @@ begins_exactly v ps r e p is same = (
 pub allowed_exactly : (mode : model.ErrorHandling) (text : Text) (ps : PolicySet) (s : Entities) (r : Request)
     (response : Response) (w : Way) (p : Printed) → IsExact mode ps s r (response_view response)
     → IsPrinted text ps w response p → w.is_json ≡ false → IsAllowedExactly mode ps s r (string_bytes p.output)
-allowed_exactly mode text ps s r response w p exact printed plain nothing sigma =
+allowed_exactly mode text ps s r response w p exact printed plain sigma =
     begins_exactly w.is_verbose (policies_view ps) response _ p
     (subst (λ b. IsPrintedAs b w.is_verbose text (policies_view ps) response p) plain printed)
-    (exact nothing sigma).decision_is
+    (exact sigma).decision_is
 
 -- ---- what is printed, with no other word below
 

@@ -37,7 +37,7 @@ use Rattle.cedar_cli.specs.declared.decisions.Printed.{Printed}
 use Rattle.cedar_cli.specs.Printing.{status, word, partial_word}
 use Rattle.cedar_cli.specs.Named.{AreNameLines}
 use Rattle.cedar_cli.specs.Documents.{IsResponseDocument}
-use Rattle.cedar_cli.specs.Questions.{levels, IsWholeRequest, IsGivenStore}
+use Rattle.cedar_cli.specs.Questions.{levels, IsWholeRequest, IsKnownStore}
 use Rattle.cedar_cli.specs.Standard.{standard_extensions, standard_calls, standard_knowledge}
 
 -- ---- what is printed
@@ -127,20 +127,20 @@ pub record IsAnsweredOver (X : world.Extensions) (calls : StoredCalls) (text : T
 pub record IsAnsweredBy (X : world.Extensions) (calls : StoredCalls) (text : Text) (ps : PolicySet) (q : Asked)
     (w : Way) (p : Printed) : Type 0 where
   pub entities : Entities
-  pub store_is : IsGivenStore X calls q entities
+  pub store_is : IsKnownStore X calls q entities
   pub answered : IsAnsweredOver X calls text ps entities q w p
 
--- where nothing is unknown: decision, reasons and errors are exactly those that the policies have by what they mean
+-- decision, reasons and errors are exactly those that the policies have by what they mean
 abbrev pub IsExact : ErrorHandling → PolicySet → Entities → Request → Authorized → Type 0
 IsExact mode ps s r a =
-    HasNothingUnknown (setting_of standard_extensions r s) → (sigma : Text → AbstractValue)
+    (sigma : Text → AbstractValue)
     → IsExactResponse mode standard_extensions standard_answers (own_world (setting_of standard_extensions r s) sigma)
     (considered ps) a
 
 -- `ALLOW` stands first exactly where the policies allow in the world of the request and the store
 abbrev pub IsAllowedExactly : ErrorHandling → PolicySet → Entities → Request → Text → Type 0
 IsAllowedExactly mode ps s r output =
-    HasNothingUnknown (setting_of standard_extensions r s) → (sigma : Text → AbstractValue)
+    (sigma : Text → AbstractValue)
     → Begins (word allow) output
     ↔ (decision (counted_each mode standard_extensions standard_answers
     (own_world (setting_of standard_extensions r s) sigma) (considered ps)) ≡ allow)
@@ -154,8 +154,10 @@ pub record IsAuthorized (text : Text) (q : Asked) (w : Way) (p : Printed) : Type
   -- the policies are those that the text's tokens derive
   pub policies_are : AreAllRead standard_knowledge text levels parsed
   -- the entities, each with all its ancestors, and the request are those that the texts say
-  pub store_is : IsGivenStore standard_extensions standard_calls q entities
+  pub store_is : IsKnownStore standard_extensions standard_calls q entities
   pub request_is : IsWholeRequest standard_extensions standard_calls q request
+  -- nothing is unknown in them
+  pub nothing_unknown : HasNothingUnknown (setting_of standard_extensions request entities)
   -- decision, reasons and errors are those of the policies; without a limit that is set, exactly
   pub response_is :
       IsResponseTo standard_extensions standard_calls parsed.policies entities request w (response_view response)

@@ -21,8 +21,8 @@ use Rattle.cedar_cli.specs.declared.refusal.Refusal.{Refusal}
 use Rattle.cedar_cli.specs.declared.refusal.Refusal.TheVariants as refusals
 use Rattle.cedar_cli.specs.Authorized.{IsAnsweredOver, IsAuthorized}
 use Rattle.cedar_cli.specs.Documents.{count_json}
-use Rattle.cedar_cli.specs.Questions.{IsGivenStore}
-use Rattle.cedar_cli.specs.Reasons.{ArePoliciesUnread, IsStoreUnread, IsRequestUnread}
+use Rattle.cedar_cli.specs.Questions.{IsKnownStore}
+use Rattle.cedar_cli.specs.Reasons.{ArePoliciesUnread, IsKnownStoreUnread, IsRequestUnread}
 use Rattle.cedar_cli.specs.Standard.{standard_extensions, standard_calls, standard_knowledge}
 
 -- ---- one line
@@ -108,7 +108,7 @@ pub record AreAuthorized (text : Text) (q : Asked) (requests : Text) (w : Way) (
 -- the policies can't be read, or the entities
 pub data AreUnauthorized (text : Text) (q : Asked) : Type 0 where
   unread_policies : ArePoliciesUnread standard_knowledge text → AreUnauthorized text q
-  unread_entities : IsStoreUnread standard_extensions standard_calls q.entities q.max_ancestors
+  unread_entities : IsKnownStoreUnread standard_extensions standard_calls q.entities q.max_ancestors
       → AreUnauthorized text q
 
 -- ---- for private clauses
@@ -137,5 +137,5 @@ AreAnsweredOver X calls text ps s q w ls p =
 pub record AreAnsweredBy (X : world.Extensions) (calls : StoredCalls) (text : Text) (ps : PolicySet) (q : Asked)
     (requests : Text) (w : Way) (p : Printed) : Type 0 where
   pub entities : Entities
-  pub store_is : IsGivenStore X calls q entities
+  pub store_is : IsKnownStore X calls q entities
   pub answered : AreAnsweredOver X calls text ps entities q w (lines requests) p

@@ -26,16 +26,17 @@ use Rattle.cedar_json_writer.specs.Written as json
 use Rattle.cedar_cli.specs.declared.asked.Asked.{Asked}
 use Rattle.cedar_cli.specs.declared.asked.Source.{Source}
 use Rattle.cedar_cli.specs.declared.decisions.Printed.{Printed}
-use Rattle.cedar_cli.specs.Questions.{levels, IsOfParts, IsGivenStore}
-use Rattle.cedar_cli.specs.Reasons.{IsOfPolicies, IsPartialUnread, IsStoreUnread}
+use Rattle.cedar_cli.specs.Questions.{levels, IsOfParts, IsWholeRequest, IsKnownStore}
+use Rattle.cedar_cli.specs.Reasons.{IsOfPolicies, IsRequestUnread, ArePartsUnread, IsKnownStoreUnread}
 use Rattle.cedar_cli.specs.Standard.{standard_extensions, standard_calls, standard_knowledge}
 use Rattle.cedar_cli.specs.Visible.{IsVisible}
 
 -- ---- what is asked
 
--- the request that the JSON says or, where none is given, that of the parts: an entity that is not given is unknown
+-- the request that the JSON says, in which nothing is unknown, or, where none is given, that of the parts: an entity
+-- that is not given is unknown
 abbrev pub IsRequestOr : world.Extensions → StoredCalls → Option Source → Asked → Request → Type 0
-IsRequestOr X calls (Some s) q r = SaysSo s.text.now (λ j. IsRequestOf X calls levels j r)
+IsRequestOr X calls (Some s) q r = IsWholeRequest X calls q r
 IsRequestOr X calls None q r = IsOfParts X calls q r
 
 -- the limit of levels is the one that is set, if one is
@@ -67,7 +68,7 @@ pub record IsAnswerOver (X : world.Extensions) (calls : StoredCalls) (e : Expr) 
 pub record IsAnswerOf (X : world.Extensions) (calls : StoredCalls) (e : Expr) (q : Asked) (limit : Option ℕ)
     (a : Answer) : Type 0 where
   pub entities : Entities
-  pub store_is : IsGivenStore X calls q entities
+  pub store_is : IsKnownStore X calls q entities
   pub answer : IsAnswerOver X calls e entities q limit a
 
 -- ---- what is printed
@@ -110,17 +111,22 @@ pub record Errs (Answers : Answer → Type 0) : Type 0 where
   pub is_final : error ≢ out_of_memory
   pub answer : Answers (fails error)
 
+-- the request is given as JSON and can't be read, or its parts can't; or an unknown stands in it
+abbrev pub IsEvaluatedUnread : world.Extensions → StoredCalls → Option Source → Asked → Type 0
+IsEvaluatedUnread X calls (Some s) q = IsRequestUnread X calls q
+IsEvaluatedUnread X calls None q = ArePartsUnread X calls q
+
 -- the request can't be read, or the answer is an error
 pub data IsUnvaluedOver (X : world.Extensions) (calls : StoredCalls) (e : Expr) (s : Entities) (q : Asked)
     (limit : Option ℕ) : Type 0 where
-  for_request : IsPartialUnread X calls q → IsUnvaluedOver X calls e s q limit
+  for_request : IsEvaluatedUnread X calls q.request q → IsUnvaluedOver X calls e s q limit
   for_error : Errs (IsAnswerOver X calls e s q limit) → IsUnvaluedOver X calls e s q limit
 
 -- the entities can't be read, or over them there is no value
 pub data IsUnvalued (X : world.Extensions) (calls : StoredCalls) (e : Expr) (q : Asked) (limit : Option ℕ)
     : Type 0 where
-  for_entities : IsStoreUnread X calls q.entities q.max_ancestors → IsUnvalued X calls e q limit
-  over_store : (s : Entities) → IsGivenStore X calls q s → IsUnvaluedOver X calls e s q limit
+  for_entities : IsKnownStoreUnread X calls q.entities q.max_ancestors → IsUnvalued X calls e q limit
+  over_store : (s : Entities) → IsKnownStore X calls q s → IsUnvaluedOver X calls e s q limit
       → IsUnvalued X calls e q limit
 
 -- the expression can't be read, it has no value, or it has one and JSON is asked for, of which none reads back

@@ -6,6 +6,7 @@ use Rattle.cedar_model.specs.World as world
 use Rattle.cedar_model.specs.World.{Slots}
 use Rattle.cedar_model.specs.Rules.{StoredCalls}
 use Rattle.cedar_model.specs.Settings.{Setting, shallow}
+use Rattle.cedar_model.specs.Agreement.{HasNothingUnknown}
 use Rattle.cedar_decisions.specs.Decisions.{decision_view, mode_view}
 use Rattle.cedar_names.specs.declared.names.Loc.{Loc}
 use Rattle.cedar_layers.specs.declared.policies.entities.Entities.{Entities}
@@ -29,10 +30,11 @@ use Rattle.cedar_cli.specs.declared.asked.Way.{Way}
 use Rattle.cedar_cli.specs.declared.decisions.Printed.{Printed}
 use Rattle.cedar_cli.specs.Noted.{place_at}
 use Rattle.cedar_cli.specs.Printing.{status, word}
-use Rattle.cedar_cli.specs.Questions.{levels, IsWholeRequest, IsGivenStore}
+use Rattle.cedar_cli.specs.Questions.{levels, IsWholeRequest, IsKnownStore}
 use Rattle.cedar_cli.specs.Standard.{standard_extensions, standard_calls, standard_knowledge}
 use Rattle.cedar_cli.specs.Visible.{IsVisible}
-use Rattle.cedar_cli.specs.Authorized.{AreReasonsIf, HasNoWordBelow, limit_in, IsResponseTo, IsExact, IsAllowedExactly}
+use Rattle.cedar_cli.specs.Authorized.{AreReasonsIf, HasNoWordBelow, limit_in, setting_of, IsResponseTo, IsExact}
+use Rattle.cedar_cli.specs.Authorized.{IsAllowedExactly}
 
 -- ---- what is explained
 
@@ -108,16 +110,17 @@ pub record IsExplainedOver (X : world.Extensions) (calls : StoredCalls) (text : 
 pub record IsExplainedBy (X : world.Extensions) (calls : StoredCalls) (text : Text) (ps : PolicySet) (q : Asked)
     (w : Way) (has_values : Bool) (p : Printed) : Type 0 where
   pub entities : Entities
-  pub store_is : IsGivenStore X calls q entities
+  pub store_is : IsKnownStore X calls q entities
   pub over : IsExplainedOver X calls text ps entities q w has_values p
 
 -- the whole: the policies are those that the text's tokens derive, the entities and the request those that the texts
--- say, and all of this is so; without a limit that is set, the response is exact, and `ALLOW` stands first exactly
--- where the policies allow
+-- say, in which nothing is unknown, and all of this is so; without a limit that is set, the response is exact, and
+-- `ALLOW` stands first exactly where the policies allow
 pub record IsExplained (text : Text) (q : Asked) (w : Way) (has_values : Bool) (p : Printed) : Type 0 where
   pub parsed : ParsedPolicies
   pub policies_are : AreAllRead standard_knowledge text levels parsed
   pub by : IsExplainedBy standard_extensions standard_calls text parsed.policies q w has_values p
+  pub nothing_unknown : HasNothingUnknown (setting_of standard_extensions by.over.request by.entities)
   pub exact : w.limit ≡ None
       → IsExact (mode_view w.error_handling) parsed.policies by.entities by.over.request
       (response_view by.over.response)

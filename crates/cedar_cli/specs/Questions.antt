@@ -8,6 +8,7 @@ use Rattle.cedar_model.specs.Values.{no_represented_at}
 use Rattle.cedar_model.specs.World as world
 use Rattle.cedar_model.specs.Rules.{StoredCalls}
 use Rattle.cedar_model.specs.Settings.{known_context, is_among}
+use Rattle.cedar_model.specs.Agreement.{IsKnownContext, IsValue, EachStored}
 use Rattle.cedar_names.specs.Names.{type_name_of, uid_name}
 use Rattle.cedar_layers.specs.declared.policies.entities.Entities.{Entities}
 use Rattle.cedar_layers.specs.declared.policies.entities.Entity.{Entity}
@@ -20,7 +21,7 @@ use Rattle.cedar_requests.specs.declared.entry.EntityUIDEntry.{EntityUIDEntry}
 use Rattle.cedar_requests.specs.declared.entry.EntityUIDEntry.TheVariants as entries
 use Rattle.cedar_requests.specs.declared.request.Request.{Request}
 use Rattle.cedar_requests.specs.Contexts.{context_view}
-use Rattle.cedar_requests.specs.Requests.{request_parts}
+use Rattle.cedar_requests.specs.Requests.{request_parts, request_view}
 use Rattle.cedar_functions.specs.Functions.{Knowledge}
 use Rattle.cedar_text_parser.specs.Paths.{IsEntityRead, IsNameRead}
 use Rattle.cedar_text_parser.specs.PolicyReading.{AreAllRead}
@@ -30,8 +31,10 @@ use Rattle.cedar_json_reader.specs.SaidContexts.{context_said, IsContextOf}
 use Rattle.cedar_json_reader.specs.SaidEntities.{entities_said}
 use Rattle.cedar_json_reader.specs.SaidRequests.{IsRequestOf}
 use Rattle.cedar_json_reader.specs.Evaluated.{AreEntitiesOf}
+use Rattle.cedar_json_reader.specs.NothingUnknown.{IsKnownRequest}
 use Rattle.cedar_cli.specs.declared.asked.Asked.{Asked}
 use Rattle.cedar_cli.specs.declared.asked.Source.{Source}
+use Rattle.cedar_cli.specs.Standard.{standard_knowledge}
 
 -- how many levels a text may have
 abbrev pub levels : ℕ
@@ -41,6 +44,11 @@ levels = 4000
 pub record ArePoliciesOf (text : Text) (parsed : ParsedPolicies) : Type 0 where
   pub known : Knowledge
   pub read : AreAllRead known text levels parsed
+
+-- they are those that it derives with the standard functions; where they may have unknowns, with some functions
+abbrev pub ArePoliciesFor : Bool → Text → ParsedPolicies → Type 0
+ArePoliciesFor false text parsed = AreAllRead standard_knowledge text levels parsed
+ArePoliciesFor true text parsed = ArePoliciesOf text parsed
 
 -- ---- requests
 
@@ -59,10 +67,11 @@ pub record AreGiven (q : Asked) : Type 0 where
   pub action : is_some q.action ≡ true
   pub resource : is_some q.resource ≡ true
 
--- the context that the JSON says; where none is given, one without attributes
+-- the context that the JSON says, in which nothing is unknown; where none is given, one without attributes
 abbrev pub IsContextSaid : world.Extensions → StoredCalls → Option Source → Context → Type 0
 IsContextSaid X calls None c = context_view c ≡ known_context no_represented_at
-IsContextSaid X calls (Some s) c = SaysSo s.text.now (λ j. IsContextOf X calls levels (context_said j) c)
+IsContextSaid X calls (Some s) c =
+    SaysSo s.text.now (λ j. IsContextOf X calls levels (context_said j) c) × IsKnownContext (context_view c)
 
 -- the request of the entities and the context that are given
 pub record IsOfParts (X : world.Extensions) (calls : StoredCalls) (q : Asked) (r : Request) : Type 0 where
@@ -83,9 +92,10 @@ abbrev pub IsWholeOr : world.Extensions → StoredCalls → Option Source → As
 IsWholeOr X calls (Some s) q r = SaysSo s.text.now (λ j. IsRequestOf X calls levels j r)
 IsWholeOr X calls None q r = IsWhole X calls q r
 
--- the request that is asked, which is to be known
-abbrev pub IsWholeRequest : world.Extensions → StoredCalls → Asked → Request → Type 0
-IsWholeRequest X calls q r = IsWholeOr X calls q.request q r
+-- the request that is asked, in which nothing is unknown
+pub record IsWholeRequest (X : world.Extensions) (calls : StoredCalls) (q : Asked) (r : Request) : Type 0 where
+  pub said : IsWholeOr X calls q.request q r
+  pub known : IsKnownRequest (request_view r)
 
 -- the context that the JSON says; where none is given, it is unknown
 abbrev pub IsContextGiven : world.Extensions → StoredCalls → Option Source → Option Context → Type 0
@@ -156,6 +166,17 @@ abbrev pub IsStoreOr : world.Extensions → StoredCalls → Option Source → Bo
 IsStoreOr X calls None is_partial s = store_view s ≡ record { entity = no_entities; is_partial = is_partial }
 IsStoreOr X calls (Some t) is_partial s = IsStoreSaid X calls t.text.now is_partial s
 
--- the store that is asked over
+-- the store of these entities and of no others, in which nothing is unknown
+pub record IsKnownStoreOf (X : world.Extensions) (calls : StoredCalls) (given : Option Source) (s : Entities)
+    : Type 0 where
+  pub said : IsStoreOr X calls given false s
+  pub whole : (store_view s).is_partial ≡ false
+  pub known : EachStored IsValue (store_view s)
+
+-- that of the entities that are given
+abbrev pub IsKnownStore : world.Extensions → StoredCalls → Asked → Entities → Type 0
+IsKnownStore X calls q s = IsKnownStoreOf X calls q.entities s
+
+-- the store that is asked over, which may be known in part
 abbrev pub IsGivenStore : world.Extensions → StoredCalls → Asked → Entities → Type 0
 IsGivenStore X calls q s = IsStoreOr X calls q.entities q.is_partial s

@@ -1,5 +1,5 @@
 -- Why nothing is answered.
-use Rattle.std.specs.Prelude.{⊤, ℕ, ◌<◌, List, [], ◌∷◌, Option, Some, None}
+use Rattle.std.specs.Prelude.{⊤, ℕ, ◌<◌, Bool, true, false, List, [], ◌∷◌, Option, Some, None}
 use Rattle.std.specs.Borrow.{Bor}
 use Rattle.json.specs.Json.{Json}
 use Rattle.cedar_model.specs.Terms.{Text, EntityName}
@@ -26,6 +26,7 @@ use Rattle.cedar_json_reader.specs.SaidEntities.{entities_said}
 use Rattle.cedar_json_reader.specs.SaidRequests.{IsRequestRefusal}
 use Rattle.cedar_json_reader.specs.Evaluated.{AreEntitiesOf}
 use Rattle.cedar_json_reader.specs.FailedEntities.{IsEntitiesError}
+use Rattle.cedar_json_reader.specs.NothingUnknown.{IsKnownContextRefusal, IsKnownEntitiesError, IsKnownRequestRefusal}
 use Rattle.cedar_cli.specs.declared.asked.Asked.{Asked}
 use Rattle.cedar_cli.specs.declared.asked.Source.{Source}
 use Rattle.cedar_cli.specs.declared.refusal.Refusal.{Refusal}
@@ -84,6 +85,11 @@ pub record AreUnread (text : Text) : Type 0 where
   pub known : Knowledge
   pub unread : ArePoliciesUnread known text
 
+-- with the standard functions it is no policies; where they may have unknowns, with some functions
+abbrev pub AreUnreadFor : Bool → Text → Type 0
+AreUnreadFor false text = ArePoliciesUnread standard_knowledge text
+AreUnreadFor true text = AreUnread text
+
 -- the text is no policies, or a token of it can't be read, so that it has no layout
 pub data HasNoLayout (text : Text) : Type 0 where
   for_reading : AreUnread text → HasNoLayout text
@@ -108,11 +114,11 @@ pub data AreEntriesUnread (q : Asked) : Type 0 where
   for_action : IsEntryUnread q.action None → AreEntriesUnread q
   for_resource : IsEntryUnread q.resource q.resource_type → AreEntriesUnread q
 
--- the context that is given can't be read, or does not evaluate
+-- the context that is given can't be read, does not evaluate, or has an unknown in it
 abbrev pub IsContextUnread : world.Extensions → StoredCalls → Option Source → Type 0
 IsContextUnread X calls None = ⊥
 IsContextUnread X calls (Some s) =
-    IsJsonUnread s.text.now (λ j e. IsContextRefusal X calls levels (context_said j) [] e)
+    IsJsonUnread s.text.now (λ j e. IsKnownContextRefusal X calls levels (context_said j) [] e)
 
 -- an entity or the context can't be read
 pub data ArePartsUnread (X : world.Extensions) (calls : StoredCalls) (q : Asked) : Type 0 where
@@ -125,16 +131,27 @@ pub data IsWholeUnread (X : world.Extensions) (calls : StoredCalls) (q : Asked) 
   for_parts : ArePartsUnread X calls q → IsWholeUnread X calls q
 
 abbrev pub IsUnreadOr : world.Extensions → StoredCalls → Option Source → Asked → Type 0
-IsUnreadOr X calls (Some s) q = IsJsonUnread s.text.now (λ j e. IsRequestRefusal X calls levels j e)
+IsUnreadOr X calls (Some s) q = IsJsonUnread s.text.now (λ j e. IsKnownRequestRefusal X calls levels j e)
 IsUnreadOr X calls None q = IsWholeUnread X calls q
 
--- the request is given as JSON and can't be read, or its parts can't
+-- the request is given as JSON and can't be read, or its parts can't; or an unknown stands in it
 abbrev pub IsRequestUnread : world.Extensions → StoredCalls → Asked → Type 0
 IsRequestUnread X calls q = IsUnreadOr X calls q.request q
 
+-- the same where something may be unknown: the context can't be read, or does not evaluate
+abbrev pub IsPartialContextUnread : world.Extensions → StoredCalls → Option Source → Type 0
+IsPartialContextUnread X calls None = ⊥
+IsPartialContextUnread X calls (Some s) =
+    IsJsonUnread s.text.now (λ j e. IsContextRefusal X calls levels (context_said j) [] e)
+
+-- an entity or the context can't
+pub data ArePartialPartsUnread (X : world.Extensions) (calls : StoredCalls) (q : Asked) : Type 0 where
+  partial_entries : AreEntriesUnread q → ArePartialPartsUnread X calls q
+  partial_context : IsPartialContextUnread X calls q.context → ArePartialPartsUnread X calls q
+
 abbrev pub IsPartialUnreadOr : world.Extensions → StoredCalls → Option Source → Asked → Type 0
 IsPartialUnreadOr X calls (Some s) q = IsJsonUnread s.text.now (λ j e. IsRequestRefusal X calls levels j e)
-IsPartialUnreadOr X calls None q = ArePartsUnread X calls q
+IsPartialUnreadOr X calls None q = ArePartialPartsUnread X calls q
 
 -- the same of a request that may be known in part: no part of it has to be given
 abbrev pub IsPartialUnread : world.Extensions → StoredCalls → Asked → Type 0
@@ -176,11 +193,22 @@ abbrev pub IsStoreUnread : world.Extensions → StoredCalls → Option Source �
 IsStoreUnread X calls None limit = ⊥
 IsStoreUnread X calls (Some s) limit = AreEntitiesUnread X calls s.text.now limit
 
+-- the entities can't be read, have an unknown in them, or are not closed
+pub data AreKnownEntitiesUnread (X : world.Extensions) (calls : StoredCalls) (text : Text) (limit : Option ℕ)
+    : Type 0 where
+  known_unread : IsJsonUnread text (λ j e. IsKnownEntitiesError X calls levels (entities_said j) e)
+      → AreKnownEntitiesUnread X calls text limit
+  known_unclosed : AreLeftUnclosed X calls text limit → AreKnownEntitiesUnread X calls text limit
+
+abbrev pub IsKnownStoreUnread : world.Extensions → StoredCalls → Option Source → Option ℕ → Type 0
+IsKnownStoreUnread X calls None limit = ⊥
+IsKnownStoreUnread X calls (Some s) limit = AreKnownEntitiesUnread X calls s.text.now limit
+
 -- ---- the whole
 
 -- the entities can't be read, or the request
 pub data IsAskedUnread (X : world.Extensions) (calls : StoredCalls) (q : Asked) : Type 0 where
-  for_entities : IsStoreUnread X calls q.entities q.max_ancestors → IsAskedUnread X calls q
+  for_entities : IsKnownStoreUnread X calls q.entities q.max_ancestors → IsAskedUnread X calls q
   for_request : IsRequestUnread X calls q → IsAskedUnread X calls q
 
 -- the policies can't be read, or what is asked

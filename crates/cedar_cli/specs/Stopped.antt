@@ -37,7 +37,7 @@ use Rattle.cedar_cli.specs.declared.asked.Step.{Step}
 use Rattle.cedar_cli.specs.declared.asked.Way.{Way}
 use Rattle.cedar_cli.specs.declared.steps.Taken.{Taken}
 use Rattle.cedar_cli.specs.Questions.{levels, IsPartialRequest, IsGivenStore}
-use Rattle.cedar_cli.specs.Reasons.{ArePoliciesUnread, IsContextUnread, IsPartialUnread, IsStoreUnread}
+use Rattle.cedar_cli.specs.Reasons.{ArePoliciesUnread, IsPartialContextUnread, IsPartialUnread, IsStoreUnread}
 use Rattle.cedar_cli.specs.Steps.{step_map, values_in, entities_lacked, AreValuesSaid, IsStoreAfter}
 use Rattle.cedar_cli.specs.Stages.{last_in, partial_configuration, AreTaken}
 
@@ -51,7 +51,7 @@ pub record HoldUnknown (X : world.Extensions) (calls : StoredCalls) (text : Text
 
 -- the values of a step can't be read, or are not known
 pub data AreValuesUnread (X : world.Extensions) (calls : StoredCalls) (s : Source) : Type 0 where
-  values_unread : IsContextUnread X calls (Some s) → AreValuesUnread X calls s
+  values_unread : IsPartialContextUnread X calls (Some s) → AreValuesUnread X calls s
   values_unknown : HoldUnknown X calls s.text.now → AreValuesUnread X calls s
 
 -- its values or its entities can't be read

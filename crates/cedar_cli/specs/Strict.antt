@@ -19,7 +19,7 @@ use Rattle.cedar_cli.specs.declared.strictness.Finding as findings
 use Rattle.cedar_cli.specs.declared.strictness.Finding.TheVariants as kinds
 use Rattle.cedar_cli.specs.Named.{policy_name}
 use Rattle.cedar_cli.specs.Noted.{place_at}
-use Rattle.cedar_cli.specs.Questions.{ArePoliciesOf}
+use Rattle.cedar_cli.specs.Questions.{ArePoliciesFor}
 use Rattle.cedar_cli.specs.Visible.{IsVisible}
 
 -- ---- a line
@@ -148,9 +148,9 @@ abbrev pub strict_status : Bool → Text → ℕ
 strict_status is_denied warnings = cond (is_denied && not (length warnings == 0)) 1 0
 
 -- the text's tokens derive policies, of which this is told, and nothing is printed
-pub record IsStrict (s : Source) (is_denied : Bool) (p : Printed) : Type 0 where
+pub record IsStrict (s : Source) (has_unknowns is_denied : Bool) (p : Printed) : Type 0 where
   pub parsed : ParsedPolicies
-  pub policies_are : ArePoliciesOf s.text.now parsed
+  pub policies_are : ArePoliciesFor has_unknowns s.text.now parsed
   pub told : AreAllTold s parsed (string_bytes p.warnings)
   pub output_is : string_bytes p.output ≡ []
   pub status_is : p.status ≡ strict_status is_denied (string_bytes p.warnings)

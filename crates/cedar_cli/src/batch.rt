@@ -3,7 +3,7 @@ ghost use Rattle.std.specs.Prelude.{◌≡◌, ◌++◌, false, true, cond, map,
 ghost use Rattle.std.specs.Str.Lines.{lines};
 ghost use Rattle.cedar_json_writer.specs.Trees.{json_view};
 ghost use Rattle.cedar_extensions.specs.Extensions.{extensions_view, calls_of};
-ghost use Rattle.cedar_cli.specs.Reasons.{IsToldFor, IsStoreUnread};
+ghost use Rattle.cedar_cli.specs.Reasons.{IsToldFor, IsKnownStoreUnread};
 ghost use Rattle.cedar_cli.specs.Batch.{asking, in_json, refusal_json, IsTold, IsRefusalLine, AreAuthorized};
 ghost use Rattle.cedar_cli.specs.Batch.{AreUnauthorized, AreAnsweredBy, AreAnsweredOver, IsLineOver, line_of_answer};
 
@@ -13,7 +13,7 @@ use crate::documents::{number, put_text};
 use crate::places::Places;
 use crate::policies::read_over;
 use crate::refusal::Refusal;
-use crate::stores::given_store;
+use crate::stores::known_store;
 use crate::warnings::{Deciding, push_templates};
 use cedar_policy_core::entities::Entities;
 use cedar_policy_core::entities::json::{JsonValue, put_member};
@@ -82,7 +82,7 @@ fn answer_parsed(
     ensures answered { IfOk result (AreAnsweredBy (extensions_view extensions.now) (calls_of extensions.now)
         source.entry.text.now parsed.now.policies asked.now requests.now (in_json way)) }
     ensures refused { IfErr result (IsToldFor
-        (IsStoreUnread (extensions_view extensions.now) (calls_of extensions.now) asked.now.entities
+        (IsKnownStoreUnread (extensions_view extensions.now) (calls_of extensions.now) asked.now.entities
         asked.now.max_ancestors)) }
 {
     let places = Places::of(alloc, source)?;
@@ -122,10 +122,10 @@ fn answer_over_given_store(
         deciding.entry.places.now.source.text.now deciding.entry.policies.now asked.now requests.now
         deciding.entry.way) }
     ensures refused { IfErr result (IsToldFor
-        (IsStoreUnread (extensions_view extensions.now) (calls_of extensions.now) asked.now.entities
+        (IsKnownStoreUnread (extensions_view extensions.now) (calls_of extensions.now) asked.now.entities
         asked.now.max_ancestors)) }
 {
-    let store = given_store(alloc, asked, extensions, &mut warnings)?;
+    let store = known_store(alloc, asked, extensions, &mut warnings)?;
     let batch = Batch {
         deciding,
         entities: &store.entities,

@@ -24,7 +24,7 @@ use crate::places::Places;
 use crate::policies::{push_name, read_over};
 use crate::reading::whole_request;
 use crate::refusal::Refusal;
-use crate::stores::given_store;
+use crate::stores::known_store;
 use crate::visible::push_visible;
 use crate::warnings::{Deciding, push_errors, push_templates};
 use cedar_policy_core::ast::{Policy, PolicyID, PolicySet, Request};
@@ -198,7 +198,7 @@ fn authorize_over_given_store(
     ensures refused { IfErr result (IsToldFor
         (IsAskedUnread (extensions_view extensions.now) (calls_of extensions.now) asked.now)) }
 {
-    let store = given_store(alloc, asked, extensions, &mut warnings)?;
+    let store = known_store(alloc, asked, extensions, &mut warnings)?;
     let printed = authorize_over_store(
         alloc,
         deciding,

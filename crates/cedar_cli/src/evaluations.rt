@@ -8,9 +8,9 @@ ghost use Rattle.cedar_functions.specs.Functions.{these, signatures_of};
 ghost use Rattle.cedar_text_parser.specs.Reading.{IsRead};
 ghost use Rattle.cedar_cli.specs.Evaluated.{IsRequestOr, IsAnswerBy, IsAnswerOver, IsAnswerOf, IsTextLine, IsLimitOr};
 ghost use Rattle.cedar_cli.specs.Evaluated.{IsValuePrinted, IsEvaluated, IsExpressionUnread, IsUnvaluedOver};
-ghost use Rattle.cedar_cli.specs.Evaluated.{IsUnvalued, IsUnevaluated};
+ghost use Rattle.cedar_cli.specs.Evaluated.{IsUnvalued, IsUnevaluated, IsEvaluatedUnread};
 ghost use Rattle.cedar_cli.specs.Questions.{levels};
-ghost use Rattle.cedar_cli.specs.Reasons.{IsToldFor, IsPartialUnread};
+ghost use Rattle.cedar_cli.specs.Reasons.{IsToldFor};
 
 use crate::asked::{Asked, Source};
 use crate::decisions::Printed;
@@ -19,7 +19,7 @@ use crate::places::{Places, describe_at};
 use crate::readable::readable_line;
 use crate::reading::{request_with_context, whole_request};
 use crate::refusal::{Refusal, refuse_unparsed, refuse_with_lines};
-use crate::stores::{Store, given_store};
+use crate::stores::{Store, known_store};
 use crate::visible::visible;
 use cedar_policy_core::ast::{Expr, Request, SlotEnv, Value};
 use cedar_policy_core::entities::Entities;
@@ -30,7 +30,8 @@ use cedar_policy_core::writing::to_cedar;
 use std::alloc::{AllocError, Global};
 
 /// The value of the expression, in Cedar's syntax or in Cedar's JSON. What is not said of the request is unknown, but
-/// for a context, which is empty: an expression that needs what is unknown is refused.
+/// for a context, which is empty: an expression that needs what is unknown is refused. So is what is said in which an
+/// unknown stands.
 pub fn evaluate_expression(
     alloc: Global,
     source: Source<'_>,
@@ -93,7 +94,7 @@ fn evaluated_with(
     ensures refused { IfErr result (IsToldFor (IsUnvalued (extensions_view extensions.now) (calls_of extensions.now)
         expr.now asked.now limit)) }
 {
-    let store = given_store(alloc, asked, extensions, warnings)?;
+    let store = known_store(alloc, asked, extensions, warnings)?;
     let value = evaluated_over(alloc, source, expr, &store, asked, limit, extensions);
     drop(store);
     value
@@ -139,7 +140,7 @@ fn request_asked(
     ensures asked { IfOk result (IsRequestOr (extensions_view extensions.now) (calls_of extensions.now)
         asked.now.request asked.now) }
     ensures refused { IfErr result (IsToldFor
-        (IsPartialUnread (extensions_view extensions.now) (calls_of extensions.now) asked.now)) }
+        (IsEvaluatedUnread (extensions_view extensions.now) (calls_of extensions.now) asked.now.request asked.now)) }
 {
     match asked.request {
         Some(_) => whole_request(alloc, asked, extensions),

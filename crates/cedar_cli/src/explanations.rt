@@ -15,7 +15,7 @@ use crate::places::Places;
 use crate::policies::read_over;
 use crate::reading::whole_request;
 use crate::refusal::Refusal;
-use crate::stores::given_store;
+use crate::stores::known_store;
 use crate::visible::push_visible;
 use crate::warnings::{Deciding, push_errors, push_templates};
 use cedar_explain_printer::{Line, LineKind, Telling, explanation_lines};
@@ -107,7 +107,7 @@ fn explain_over_given_store(
     ensures refused { IfErr result (IsToldFor
         (IsAskedUnread (extensions_view extensions.now) (calls_of extensions.now) asked.now)) }
 {
-    let store = given_store(alloc, asked, extensions, &mut warnings)?;
+    let store = known_store(alloc, asked, extensions, &mut warnings)?;
     let printed = explain_over_store(
         alloc,
         explaining,

@@ -21,7 +21,7 @@
 //! and statuses go by `specs/Printing`, policies' names by `specs/Named`, what is printed as JSON by `specs/Documents`,
 //! lines and columns by `specs/Noted`.
 //! What reads the parts of a question is public too, for crates that answer other questions over the same texts: policies
-//! (`read_over`), a store (`given_store`), a request (`whole_request`), and what is told of them (`specs/Questions`,
+//! (`read_over`), a store (`known_store`, `given_store`), a request (`whole_request`), and what is told of them (`specs/Questions`,
 //! `specs/Reasons`).
 //! `docs/COMMANDS.md` describes each command and where these promises end; the rest is tested by `cedar_test_cli`.
 #![tactic(auto)]
@@ -65,7 +65,7 @@ pub use reading::whole_request;
 pub use refusal::{Refusal, refuse_with_line, unread_json};
 pub use stages::{Stages, all_stages, first_stage, stages_from};
 pub use steps::Taken;
-pub use stores::{Store, given_store};
+pub use stores::{Store, given_store, known_store};
 pub use strictness::check_strictly;
 pub use translations::translate_to_json;
 pub use warnings::{push_warning, tell_errors, tell_templates};

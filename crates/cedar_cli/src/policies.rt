@@ -6,9 +6,10 @@ ghost use Rattle.cedar_text_formatter.specs.Formatted.{IsFormatted};
 ghost use Rattle.cedar_text_parser.specs.PolicyHeights.{with_scope, AreAllNoHigher};
 ghost use Rattle.cedar_text_parser.specs.PolicyReading.{AreAllRead};
 ghost use Rattle.cedar_cli.specs.Named.{annotated, policy_name};
-ghost use Rattle.cedar_cli.specs.Questions.{levels, ArePoliciesOf};
-ghost use Rattle.cedar_cli.specs.Reasons.{IsToldFor, IsOfPolicies, ArePoliciesUnread, AreUnread, HasNoLayout};
-ghost use Rattle.cedar_cli.specs.Reasons.{IsNotLaidOut};
+ghost use Rattle.cedar_cli.specs.Questions.{levels, ArePoliciesOf, ArePoliciesFor};
+ghost use Rattle.cedar_cli.specs.Reasons.{IsToldFor, IsOfPolicies, ArePoliciesUnread, AreUnread, AreUnreadFor};
+ghost use Rattle.cedar_cli.specs.Reasons.{HasNoLayout, IsNotLaidOut};
+ghost use Rattle.cedar_cli.specs.Standard.{standard_knowledge};
 
 use crate::asked::Source;
 use crate::limits::LEVELS;
@@ -159,13 +160,38 @@ fn read_known(
     read_over(alloc, source, extensions)
 }
 
-/// Whether the policies can be read, in which the standard functions and `unknown` may be called: if not, the first
-/// errors are told, each with its place, and how many more there are.
-pub fn check_policies(alloc: Global, source: Source<'_>) -> Result<(), Refusal>
-    ensures passed { OnOk result ((parsed : _) × ArePoliciesOf source.entry.text.now parsed) }
-    ensures refused { IfErr result (IsToldFor (AreUnread source.entry.text.now)) }
+/// The policies that the text writes, which call standard functions alone; and `unknown`, where they may.
+pub(crate) fn read_for(
+    alloc: Global,
+    source: Source<'_>,
+    has_unknowns: bool,
+) -> Result<ParsedPolicies, Refusal>
+    ensures read { IfOk result (ArePoliciesFor has_unknowns source.entry.text.now) }
+    ensures refused { IfErr result (IsToldFor (AreUnreadFor has_unknowns source.entry.text.now)) }
 {
-    let parsed = read_with_unknown(alloc, source)?;
+    if has_unknowns {
+        read_with_unknown(alloc, source)
+    } else {
+        read_standard(alloc, source)
+    }
+}
+
+// The policies that the text writes, which call standard functions alone.
+fn read_standard(alloc: Global, source: Source<'_>) -> Result<ParsedPolicies, Refusal>
+    ensures read { IfOk result (AreAllRead standard_knowledge source.entry.text.now levels) }
+    ensures refused { IfErr result (IsToldFor (ArePoliciesUnread standard_knowledge source.entry.text.now)) }
+{
+    let extensions = Extensions::all_available();
+    read_over(alloc, source, &extensions)
+}
+
+/// Whether the policies can be read, in which the standard functions may be called and, where they may have unknowns,
+/// `unknown`: if not, the first errors are told, each with its place, and how many more there are.
+pub fn check_policies(alloc: Global, source: Source<'_>, has_unknowns: bool) -> Result<(), Refusal>
+    ensures passed { OnOk result ((parsed : _) × ArePoliciesFor has_unknowns source.entry.text.now parsed) }
+    ensures refused { IfErr result (IsToldFor (AreUnreadFor has_unknowns source.entry.text.now)) }
+{
+    let parsed = read_for(alloc, source, has_unknowns)?;
     drop(parsed);
     Ok(())
 }
@@ -176,7 +202,7 @@ pub fn format_policies(alloc: Global, source: Source<'_>) -> Result<String, Refu
     ensures formatted { IfOk result (λ formatted. IsFormatted source.entry.text.now (string_bytes formatted)) }
     ensures refused { IfErr result (IsToldFor (HasNoLayout source.entry.text.now)) }
 {
-    check_policies(alloc, source)?;
+    check_policies(alloc, source, true)?;
     match format_text(alloc, source.text) {
         Ok(formatted) => Ok(formatted),
         Err(FormatError::Memory) => Err(Refusal::Memory),
@@ -189,7 +215,7 @@ pub fn check_format(alloc: Global, source: Source<'_>) -> Result<(), Refusal>
     ensures passed { OnOk result (IsFormatted source.entry.text.now source.entry.text.now) }
     ensures refused { IfErr result (IsToldFor (IsNotLaidOut source.entry.text.now)) }
 {
-    check_policies(alloc, source)?;
+    check_policies(alloc, source, true)?;
     match is_formatted(alloc, source.text) {
         Ok(true) => Ok(()),
         Ok(false) => Err(would_change(alloc, source)),

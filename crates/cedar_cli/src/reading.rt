@@ -1,16 +1,20 @@
 //! Requests.
 ghost use Rattle.std.specs.Prelude.{◌≡◌, true, None, [], IfOk, OnOk, IfErr, IfSome, IfNone, is_some};
 ghost use Rattle.cedar_extensions.specs.Extensions.{extensions_view, calls_of};
-ghost use Rattle.cedar_requests.specs.Requests.{request_parts};
+ghost use Rattle.cedar_model.specs.Agreement.{IsKnownContext};
+ghost use Rattle.cedar_requests.specs.Contexts.{context_view};
+ghost use Rattle.cedar_requests.specs.Requests.{request_parts, request_view};
 ghost use Rattle.cedar_names.specs.Names.{type_name_of};
 ghost use Rattle.cedar_text_parser.specs.Paths.{IsEntityRead, IsNameRead};
 ghost use Rattle.cedar_json_reader.specs.JsonTexts.{SaysSo};
 ghost use Rattle.cedar_json_reader.specs.SaidContexts.{context_said, IsContextOf};
 ghost use Rattle.cedar_json_reader.specs.SaidRequests.{IsRequestOf};
 ghost use Rattle.cedar_cli.specs.Reasons.{IsToldFor, IsPathUnread, IsJsonUnread, IsEntryUnread, IsContextUnread};
+ghost use Rattle.cedar_cli.specs.Reasons.{IsPartialContextUnread, ArePartialPartsUnread};
 ghost use Rattle.cedar_cli.specs.Reasons.{AreEntriesUnread, ArePartsUnread, IsRequestUnread, IsPartialUnread};
 ghost use Rattle.cedar_json_reader.specs.SaidContexts.{IsContextRefusal};
 ghost use Rattle.cedar_json_reader.specs.SaidRequests.{IsRequestRefusal};
+ghost use Rattle.cedar_json_reader.specs.NothingUnknown.{IsKnownRequest, IsKnownContextRefusal, IsKnownRequestRefusal};
 ghost use Rattle.cedar_cli.specs.Questions.{levels, IsEntryOf, AreGiven, IsContextSaid, IsOfParts, IsWholeRequest};
 ghost use Rattle.cedar_cli.specs.Questions.{IsContextGiven, IsOfGivenParts, IsPartialRequest};
 
@@ -18,7 +22,10 @@ use crate::asked::{Asked, Source};
 use crate::limits::LEVELS;
 use crate::refusal::{Refusal, refuse_with_line, unread, unread_json};
 use cedar_policy_core::ast::{Context, EntityType, EntityUID, EntityUIDEntry, Request};
-use cedar_policy_core::entities::json::{context_from_json_str, request_from_json_str};
+use cedar_policy_core::entities::json::{
+    context_from_json_str, known_context_from_json_str, known_request_from_json_str,
+    request_from_json_str,
+};
 use cedar_policy_core::extensions::Extensions;
 use cedar_policy_core::parser::{parse_entity_uid, parse_name};
 use std::alloc::Global;
@@ -31,8 +38,8 @@ struct Entries {
     resource: EntityUIDEntry,
 }
 
-/// The request that is asked, each part of which is to be given, but for the context, which is else empty. Refused where
-/// a part is not given, or what is given can't be read.
+/// The request that is asked, each part of which is to be given, except the context, which is else empty. Refused where
+/// a part is not given, where what is given can't be read, and where an unknown stands in it.
 pub fn whole_request(
     alloc: Global,
     asked: &Asked<'_, '_>,
@@ -43,7 +50,7 @@ pub fn whole_request(
         (IsRequestUnread (extensions_view extensions.now) (calls_of extensions.now) asked.now)) }
 {
     match asked.request {
-        Some(source) => request_of(alloc, source, extensions),
+        Some(source) => known_request_of(alloc, source, extensions),
         None => {
             all_given(alloc, asked)?;
             request_with_context(alloc, asked, extensions)
@@ -77,7 +84,8 @@ fn missing(asked: &Asked<'_, '_>) -> Option<&'static str>
     }
 }
 
-/// The request that is asked, where an entity that is not given is unknown, and a context that is not given empty.
+/// The request that is asked, where an entity that is not given is unknown, and a context that is not given empty. One
+/// in which an unknown stands is refused.
 pub(crate) fn request_with_context(
     alloc: Global,
     asked: &Asked<'_, '_>,
@@ -104,7 +112,7 @@ fn given_context(
         (IsContextUnread (extensions_view extensions.now) (calls_of extensions.now) context.entry)) }
 {
     match context {
-        Some(source) => context_of(alloc, source, extensions),
+        Some(source) => known_context_of(alloc, source, extensions),
         None => Ok(Context::empty(alloc)),
     }
 }
@@ -135,7 +143,7 @@ fn request_of_given(
     ensures parts { IfOk result
         (IsOfGivenParts (extensions_view extensions.now) (calls_of extensions.now) asked.now) }
     ensures refused { IfErr result (IsToldFor
-        (ArePartsUnread (extensions_view extensions.now) (calls_of extensions.now) asked.now)) }
+        (ArePartialPartsUnread (extensions_view extensions.now) (calls_of extensions.now) asked.now)) }
 {
     let context = context_if_given(alloc, asked.context, extensions)?;
     let entries = entries_of(alloc, asked)?;
@@ -150,7 +158,7 @@ fn context_if_given(
     ensures said { IfOk result
         (IsContextGiven (extensions_view extensions.now) (calls_of extensions.now) context.entry) }
     ensures refused { IfErr result (IsToldFor
-        (IsContextUnread (extensions_view extensions.now) (calls_of extensions.now) context.entry)) }
+        (IsPartialContextUnread (extensions_view extensions.now) (calls_of extensions.now) context.entry)) }
 {
     match context {
         Some(source) => Ok(Some(context_of(alloc, source, extensions)?)),
@@ -272,6 +280,25 @@ pub(crate) fn context_of(
     }
 }
 
+// The context that the text writes, in which nothing may be unknown.
+fn known_context_of(
+    alloc: Global,
+    source: Source<'_>,
+    extensions: &Extensions<'_>,
+) -> Result<Context, Refusal>
+    ensures said { IfOk result (λ c. SaysSo source.entry.text.now (λ j.
+        IsContextOf (extensions_view extensions.now) (calls_of extensions.now) levels (context_said j) c)) }
+    ensures known { IfOk result (λ c. IsKnownContext (context_view c)) }
+    ensures refused { IfErr result (IsToldFor (IsJsonUnread source.entry.text.now (λ j e.
+        IsKnownContextRefusal (extensions_view extensions.now) (calls_of extensions.now) levels (context_said j) []
+        e))) }
+{
+    match known_context_from_json_str(alloc, source.text, extensions, LEVELS) {
+        Ok(context) => Ok(context),
+        Err(error) => Err(unread_json(alloc, source, error)),
+    }
+}
+
 fn request_of(
     alloc: Global,
     source: Source<'_>,
@@ -283,6 +310,24 @@ fn request_of(
         IsRequestRefusal (extensions_view extensions.now) (calls_of extensions.now) levels j e))) }
 {
     match request_from_json_str(alloc, source.text, extensions, LEVELS) {
+        Ok(request) => Ok(request),
+        Err(error) => Err(unread_json(alloc, source, error)),
+    }
+}
+
+// The request that the text writes, in which nothing may be unknown.
+fn known_request_of(
+    alloc: Global,
+    source: Source<'_>,
+    extensions: &Extensions<'_>,
+) -> Result<Request, Refusal>
+    ensures said { IfOk result (λ r. SaysSo source.entry.text.now (λ j.
+        IsRequestOf (extensions_view extensions.now) (calls_of extensions.now) levels j r)) }
+    ensures known { IfOk result (λ r. IsKnownRequest (request_view r)) }
+    ensures refused { IfErr result (IsToldFor (IsJsonUnread source.entry.text.now (λ j e.
+        IsKnownRequestRefusal (extensions_view extensions.now) (calls_of extensions.now) levels j e))) }
+{
+    match known_request_from_json_str(alloc, source.text, extensions, LEVELS) {
         Ok(request) => Ok(request),
         Err(error) => Err(unread_json(alloc, source, error)),
     }

@@ -1,10 +1,12 @@
 //! Stores of entities.
-ghost use Rattle.std.specs.Prelude.{◌≡◌, IfOk, IfErr};
+ghost use Rattle.std.specs.Prelude.{◌≡◌, false, IfOk, IfErr};
+ghost use Rattle.cedar_model.specs.Agreement.{IsValue, EachStored};
 ghost use Rattle.cedar_layers.specs.Stores.{no_entities, store_view};
 ghost use Rattle.cedar_extensions.specs.Extensions.{extensions_view, calls_of};
 ghost use Rattle.cedar_cli.specs.Questions.{IsGivenStore, IsStoreSaid, IsClosedAs, IsClosedStore, IsPartialStore};
 ghost use Rattle.cedar_cli.specs.Reasons.{IsToldFor, IsStoreUnread, AreEntitiesUnread, IsCyclic, NamesOne};
-ghost use Rattle.cedar_cli.specs.Reasons.{AreNotClosed, CanHaveMore};
+ghost use Rattle.cedar_cli.specs.Questions.{IsKnownStore};
+ghost use Rattle.cedar_cli.specs.Reasons.{AreNotClosed, CanHaveMore, IsKnownStoreUnread, AreKnownEntitiesUnread};
 
 use crate::ancestors::{ANCESTORS, has_more_ancestors, most_ancestors};
 use crate::asked::{Asked, Source};
@@ -13,7 +15,7 @@ use crate::refusal::{Refusal, refuse_with_line, unread_json};
 use crate::warnings::push_left_out;
 use cedar_policy_core::ast::Entity;
 use cedar_policy_core::authorizer::heights::entities_height;
-use cedar_policy_core::entities::json::entities_from_json_str;
+use cedar_policy_core::entities::json::{entities_from_json_str, known_entities_from_json_str};
 use cedar_policy_core::entities::{
     ClosureError, Entities, PartialClosure, close_hierarchy, close_hierarchy_partially,
 };
@@ -63,6 +65,34 @@ pub fn given_store(
     }
 }
 
+/// The store of the entities that are given and of no others, each with all its ancestors, in which nothing may be
+/// unknown; where none are given, that without any. Refused as `given_store` does, and where an unknown stands in an
+/// attribute or a tag. Whether there may be more entities is not looked at.
+pub fn known_store(
+    alloc: Global,
+    asked: &Asked<'_, '_>,
+    extensions: &Extensions<'_>,
+    warnings: &mut String,
+) -> Result<Store, Refusal>
+    ensures given { IfOk result (λ s.
+        IsKnownStore (extensions_view extensions.now) (calls_of extensions.now) asked.now s.entities) }
+    ensures refused { IfErr result (IsToldFor
+        (IsKnownStoreUnread (extensions_view extensions.now) (calls_of extensions.now) asked.now.entities
+        asked.now.max_ancestors)) }
+{
+    match asked.entities {
+        Some(source) => {
+            let given = Given {
+                source,
+                is_partial: false,
+                max_ancestors: asked.max_ancestors,
+            };
+            known_store_of(alloc, given, extensions, warnings)
+        }
+        None => no_entities(alloc, false),
+    }
+}
+
 fn no_entities(alloc: Global, is_partial: bool) -> Result<Store, Refusal>
     ensures given { IfOk result (λ s. store_view s.entities
         ≡ record { entity = no_entities; is_partial = is_partial }) }
@@ -94,6 +124,34 @@ pub(crate) fn store_of(
 {
     let source = given.source;
     match entities_from_json_str(alloc, source.text, extensions, LEVELS) {
+        Ok(entities) => {
+            let height = entities_height(&entities);
+            match closed_store(alloc, given, entities, warnings) {
+                Ok(entities) => Ok(Store { entities, height }),
+                Err(refusal) => Err(refusal),
+            }
+        }
+        Err(error) => Err(unread_json(alloc, source, error)),
+    }
+}
+
+// The store of the entities that this text writes, in which nothing may be unknown.
+fn known_store_of(
+    alloc: Global,
+    given: Given<'_>,
+    extensions: &Extensions<'_>,
+    warnings: &mut String,
+) -> Result<Store, Refusal>
+    requires { given.is_partial ≡ false }
+    ensures said { IfOk result (λ s. IsStoreSaid (extensions_view extensions.now) (calls_of extensions.now)
+        given.entry.source.text.now false s.entities) }
+    ensures known { IfOk result (λ s. EachStored IsValue (store_view s.entities)) }
+    ensures refused { IfErr result (IsToldFor
+        (AreKnownEntitiesUnread (extensions_view extensions.now) (calls_of extensions.now)
+        given.entry.source.text.now given.entry.max_ancestors)) }
+{
+    let source = given.source;
+    match known_entities_from_json_str(alloc, source.text, extensions, LEVELS) {
         Ok(entities) => {
             let height = entities_height(&entities);
             match closed_store(alloc, given, entities, warnings) {

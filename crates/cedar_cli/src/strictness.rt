@@ -1,7 +1,7 @@
 //! What is told of policies that can be read, but can't be meant.
 ghost use Rattle.std.specs.Prelude.{◌≡◌, ◌++◌, true, [], IfOk, OnOk, IfErr, string_bytes, option_map, is_some};
 ghost use Rattle.cedar_layers.specs.PolicySets.{stored_policies};
-ghost use Rattle.cedar_cli.specs.Reasons.{IsToldFor, AreUnread};
+ghost use Rattle.cedar_cli.specs.Reasons.{IsToldFor, AreUnreadFor};
 ghost use Rattle.cedar_cli.specs.Strict as specs;
 ghost use Rattle.cedar_cli.specs.Strict.{finding_view, words_found, IsMeant, IsLineIf, IsLineWhen, IsFoundLine, Adds};
 ghost use Rattle.cedar_cli.specs.Strict.{AreFindingLines, AreFindings, AreAllTold, IsStrict};
@@ -9,7 +9,7 @@ ghost use Rattle.cedar_cli.specs.Strict.{AreFindingLines, AreFindings, AreAllTol
 use crate::asked::Source;
 use crate::decisions::Printed;
 use crate::places::Places;
-use crate::policies::{push_name, read_with_unknown};
+use crate::policies::{push_name, read_for};
 use crate::refusal::Refusal;
 use crate::repeated::push_alike;
 use crate::warnings::push_warning;
@@ -35,12 +35,13 @@ pub(crate) enum Finding {
 pub fn check_strictly(
     alloc: Global,
     source: Source<'_>,
+    has_unknowns: bool,
     is_denied: bool,
 ) -> Result<Printed, Refusal>
-    ensures checked { IfOk result (IsStrict source.entry is_denied) }
-    ensures refused { IfErr result (IsToldFor (AreUnread source.entry.text.now)) }
+    ensures checked { IfOk result (IsStrict source.entry has_unknowns is_denied) }
+    ensures refused { IfErr result (IsToldFor (AreUnreadFor has_unknowns source.entry.text.now)) }
 {
-    let parsed = read_with_unknown(alloc, source)?;
+    let parsed = read_for(alloc, source, has_unknowns)?;
     let told = all_warnings(alloc, source, &parsed);
     drop(parsed);
     let warnings: String = told?;

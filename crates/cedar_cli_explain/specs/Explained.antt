@@ -19,7 +19,7 @@ use Rattle.cedar_cli.specs.declared.decisions.Printed.{Printed}
 use Rattle.cedar_cli.specs.Authorized.{IsAuthorized, limit_in}
 use Rattle.cedar_cli.specs.Batch.{in_json}
 use Rattle.cedar_cli.specs.Explained.{given}
-use Rattle.cedar_cli.specs.Questions.{levels, IsWholeRequest, IsGivenStore}
+use Rattle.cedar_cli.specs.Questions.{levels, IsWholeRequest, IsKnownStore}
 use Rattle.cedar_cli.specs.Standard.{standard_extensions, standard_calls, standard_knowledge}
 
 -- ---- the explanation
@@ -42,7 +42,7 @@ pub record IsExplainedOver (X : world.Extensions) (calls : StoredCalls) (text : 
 pub record IsExplainedBy (X : world.Extensions) (calls : StoredCalls) (text : Text) (ps : PolicySet) (q : Asked)
     (w : Way) (has_values : Bool) (j : Json) : Type 0 where
   pub entities : Entities
-  pub store_is : IsGivenStore X calls q entities
+  pub store_is : IsKnownStore X calls q entities
   pub over : IsExplainedOver X calls text ps entities q w has_values j
 
 -- there are policies, those that the text's tokens derive

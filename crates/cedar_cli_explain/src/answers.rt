@@ -8,7 +8,7 @@ ghost use Rattle.cedar_cli_explain.specs.Explained.{IsExplainedAsJson, IsDecided
 ghost use Rattle.cedar_cli_explain.specs.Explained.{IsExplainedOver, IsExplainedOf};
 
 use cedar_cli::{
-    Asked, Printed, Refusal, Source, Way, authorize, given_store, read_over, text_limit,
+    Asked, Printed, Refusal, Source, Way, authorize, known_store, read_over, text_limit,
     whole_request,
 };
 use cedar_explain_json::explanation_to_json;
@@ -137,7 +137,7 @@ fn explain_over_given_store(
         (IsAskedUnread (extensions_view extensions.now) (calls_of extensions.now) asked.now)) }
 {
     let mut told = String::new(alloc);
-    let store = given_store(alloc, asked, extensions, &mut told)?;
+    let store = known_store(alloc, asked, extensions, &mut told)?;
     let explanation = explain_over_store(alloc, explaining, &store.entities, asked, extensions);
     drop((store, told));
     explanation

@@ -115,9 +115,10 @@ pub record IsPlannedWith (k : Knowledge) (X : world.Extensions) (calls : StoredC
   pub policies_are : AreAllRead k text levels parsed
   pub planned : IsPlannedBy X calls parsed.policies q table w is_candidates p
 
--- the whole: there is a table, the one that the JSON says
+-- the whole: the store may lack entities, as it lacks the rows, and there is a table, the one that the JSON says
 pub record IsPlanned (k : Knowledge) (X : world.Extensions) (calls : StoredCalls) (text : Text) (q : Asked)
     (columns : Text) (w : Way) (is_candidates : Bool) (p : Printed) : Type 0 where
+  pub partial : q.is_partial ≡ true
   pub table : SqlTable
   pub table_is : Says columns table_said (table_view table)
   pub planned : IsPlannedWith k X calls text q table w is_candidates p

@@ -79,9 +79,10 @@ pub data IsUnplannedWith (k : Knowledge) (X : world.Extensions) (calls : StoredC
   for_question : (parsed : ParsedPolicies) → AreAllRead k text levels parsed
       → IsUnplannedBy X calls parsed.policies q table w → IsUnplannedWith k X calls text q table w
 
--- the whole: the table can't be read; or for it it is so
+-- the whole: the store is said to have all entities; or the table can't be read; or for it it is so
 pub data IsUnplanned (k : Knowledge) (X : world.Extensions) (calls : StoredCalls) (text : Text) (q : Asked)
     (columns : Text) (w : Way) : Type 0 where
+  for_whole : q.is_partial ≡ false → IsUnplanned k X calls text q columns w
   for_table : IsTableUnread columns → IsUnplanned k X calls text q columns w
   for_plan : (table : SqlTable) → Says columns table_said (table_view table)
       → IsUnplannedWith k X calls text q table w → IsUnplanned k X calls text q columns w

@@ -1,5 +1,5 @@
 //! Which rows of a table the policies allow, as SQL.
-ghost use Rattle.std.specs.Prelude.{◌≡◌, true, Some, IfOk, IfErr};
+ghost use Rattle.std.specs.Prelude.{◌≡◌, true, false, Some, IfOk, OnOk, IfErr};
 ghost use Rattle.cedar_model.specs.Chains.{has_limit};
 ghost use Rattle.cedar_functions.specs.Functions.{these, signatures_of};
 ghost use Rattle.cedar_extensions.specs.Extensions.{extensions_view, calls_of};
@@ -44,8 +44,9 @@ struct Planning<'p> {
 /// entity that stands for the resource, which is not known; or for the principal, where the resource is. On a row of the
 /// table it is 1 where the policies allow, whatever those of them decide that SQL does not say, each of which is told as a
 /// warning; else it is 0. Of candidates it is 0 where the policies deny, whatever those decide; and a comment above it says
-/// so. Refused where the table, the policies or what is asked can't be read, where neither resource nor principal is
-/// unknown, where entities of the table can't stand for it, and where a policy met the limit of levels.
+/// so. Refused where the entities are said to be all that there are, since the rows are not among them; where the table,
+/// the policies or what is asked can't be read, where neither resource nor principal is unknown, where entities of the
+/// table can't stand for it, and where a policy met the limit of levels.
 pub fn plan_as_sql(
     alloc: Global,
     extensions: &Extensions<'_>,
@@ -61,6 +62,7 @@ pub fn plan_as_sql(
         (extensions_view extensions.now) (calls_of extensions.now) policies.entry.text.now asked.now
         columns.entry.text.now way)) }
 {
+    refuse_whole(alloc, asked)?;
     let table = read_table(alloc, columns)?;
     let printed = plan_with_table(
         alloc,
@@ -73,6 +75,22 @@ pub fn plan_as_sql(
     );
     drop(table);
     printed
+}
+
+// Refuses a store that is said to have all entities: it has no rows.
+fn refuse_whole(alloc: Global, asked: &Asked<'_, '_>) -> Result<(), Refusal>
+    ensures partial { OnOk result (asked.now.is_partial ≡ true) }
+    ensures refused { IfErr result (IsToldFor (asked.now.is_partial ≡ false)) }
+{
+    if asked.is_partial {
+        Ok(())
+    } else {
+        let line = String::from_str(
+            alloc,
+            "--sql: the rows of the table are not among the entities that are given, so add --partial",
+        );
+        Err(refuse_with_line(alloc, line))
+    }
 }
 
 fn plan_with_table(

@@ -13,8 +13,8 @@ use Rattle.cedar_policy_tests.specs.Said.{SaidTest, tests_in}
 use Rattle.cedar_cli.specs.declared.asked.Asked.{Asked}
 use Rattle.cedar_cli.specs.declared.asked.Way.{Way}
 use Rattle.cedar_cli.specs.declared.decisions.Printed.{Printed}
-use Rattle.cedar_cli.specs.Questions.{IsGivenStore}
-use Rattle.cedar_cli.specs.Reasons.{IsStoreUnread}
+use Rattle.cedar_cli.specs.Questions.{IsKnownStore}
+use Rattle.cedar_cli.specs.Reasons.{IsKnownStoreUnread}
 use Rattle.cedar_regression.specs.Answered.{IsAnswerOver}
 use Rattle.cedar_cli_tests.specs.declared.results.Results.{Results}
 use Rattle.cedar_cli_tests.specs.declared.results.Verdict.{Verdict}
@@ -25,7 +25,7 @@ use Rattle.cedar_cli_tests.specs.Tested.{AreTestedAs, AreNoTests}
 pub record IsAnsweredBy (X : world.Extensions) (calls : StoredCalls) (ps : PolicySet) (w : Way) (q : Asked)
     (a : AnswerView) : Type 0 where
   pub entities : Entities
-  pub store_is : IsGivenStore X calls q entities
+  pub store_is : IsKnownStore X calls q entities
   pub answer_is : IsAnswerOver X calls ps entities w q a
 
 abbrev pub verdict_view : Verdict → VerdictView
@@ -68,5 +68,5 @@ pub record IsTextTestedBy (X : world.Extensions) (calls : StoredCalls) (ps : Pol
 
 -- the entities that are given can't be read, or the tests
 pub data IsUntestedBy (X : world.Extensions) (calls : StoredCalls) (q : Asked) (tests : Text) : Type 0 where
-  by_entities : IsStoreUnread X calls q.entities q.max_ancestors → IsUntestedBy X calls q tests
+  by_entities : IsKnownStoreUnread X calls q.entities q.max_ancestors → IsUntestedBy X calls q tests
   by_tests : AreNoTests tests → IsUntestedBy X calls q tests

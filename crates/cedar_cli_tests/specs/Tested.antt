@@ -17,7 +17,7 @@ use Rattle.cedar_cli.specs.declared.asked.Source.{Source}
 use Rattle.cedar_cli.specs.declared.asked.Way.{Way}
 use Rattle.cedar_cli.specs.declared.decisions.Printed.{Printed}
 use Rattle.cedar_cli.specs.Batch.{asking}
-use Rattle.cedar_cli.specs.Reasons.{ArePoliciesUnread, IsStoreUnread, IsRequestUnread, IsAskedUnread}
+use Rattle.cedar_cli.specs.Reasons.{ArePoliciesUnread, IsKnownStoreUnread, IsRequestUnread, IsAskedUnread}
 use Rattle.cedar_cli.specs.Standard.{standard_extensions, standard_calls, standard_knowledge}
 use Rattle.cedar_regression.specs.Answered.{IsAnswerOf}
 
@@ -144,6 +144,6 @@ pub data AreNoTests (tests : Text) : Type 0 where
 -- the policies can't be read, or the entities that are given, or the tests
 pub data AreUntested (text : Text) (q : Asked) (tests : Text) : Type 0 where
   policies_unread : ArePoliciesUnread standard_knowledge text → AreUntested text q tests
-  entities_unread : IsStoreUnread standard_extensions standard_calls q.entities q.max_ancestors
+  entities_unread : IsKnownStoreUnread standard_extensions standard_calls q.entities q.max_ancestors
       → AreUntested text q tests
   tests_unread : AreNoTests tests → AreUntested text q tests

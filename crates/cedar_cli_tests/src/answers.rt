@@ -3,13 +3,13 @@ ghost use Rattle.std.specs.Prelude.{◌≡◌, IfOk, IfErr};
 ghost use Rattle.cedar_extensions.specs.Extensions.{extensions_view, calls_of};
 ghost use Rattle.cedar_expectations.specs.Answers.{answer_view};
 ghost use Rattle.cedar_cli.specs.Batch.{asking};
-ghost use Rattle.cedar_cli.specs.Questions.{IsGivenStore};
+ghost use Rattle.cedar_cli.specs.Questions.{IsKnownStore};
 ghost use Rattle.cedar_cli.specs.Reasons.{IsToldFor, IsAskedUnread, IsRequestUnread};
 ghost use Rattle.cedar_regression.specs.Answered.{IsAnswerOver};
 ghost use Rattle.cedar_cli_tests.specs.Tested.{over, question, IsUnread};
 ghost use Rattle.cedar_cli_tests.specs.Results.{IsAnsweredBy};
 
-use cedar_cli::{Asked, Refusal, Source, Way, given_store};
+use cedar_cli::{Asked, Refusal, Source, Way, known_store};
 use cedar_expectations::Answer;
 use cedar_policy_core::ast::PolicySet;
 use cedar_policy_core::entities::Entities;
@@ -36,7 +36,7 @@ pub(crate) fn answer_to(
     entities: Option<Source<'_>>,
     extensions: &Extensions<'_>,
 ) -> Result<Answer, Refusal>
-    requires { IsGivenStore (extensions_view extensions.now) (calls_of extensions.now) asked.now store.now }
+    requires { IsKnownStore (extensions_view extensions.now) (calls_of extensions.now) asked.now store.now }
     ensures answered { IfOk result (λ a. IsAnsweredBy (extensions_view extensions.now) (calls_of extensions.now)
         tested.entry.policies.now tested.entry.way (question asked.now request.entry entities.entry) (answer_view a)) }
     ensures refused { IfErr result (IsToldFor (IsUnread (extensions_view extensions.now) (calls_of extensions.now)
@@ -56,7 +56,7 @@ fn answer_given(
     request: Source<'_>,
     extensions: &Extensions<'_>,
 ) -> Result<Answer, Refusal>
-    requires { IsGivenStore (extensions_view extensions.now) (calls_of extensions.now) asked.now store.now }
+    requires { IsKnownStore (extensions_view extensions.now) (calls_of extensions.now) asked.now store.now }
     ensures answered { IfOk result (λ a. IsAnsweredBy (extensions_view extensions.now) (calls_of extensions.now)
         tested.entry.policies.now tested.entry.way (asking asked.now request.entry) (answer_view a)) }
     ensures refused { IfErr result (IsToldFor (IsRequestUnread (extensions_view extensions.now)
@@ -97,7 +97,7 @@ fn answer_own(
         (calls_of extensions.now) (asking asked.now request.entry))) }
 {
     let mut told = String::new(alloc);
-    let store = given_store(alloc, asked, extensions, &mut told)?;
+    let store = known_store(alloc, asked, extensions, &mut told)?;
     let answer = answer_request(alloc, tested, &store.entities, asked, request, extensions);
     drop((store, told));
     answer

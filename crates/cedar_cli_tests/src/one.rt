@@ -6,7 +6,7 @@ ghost use Rattle.cedar_policy_tests.specs.Failures.{failure};
 ghost use Rattle.cedar_policy_tests.specs.Views.{test_view};
 ghost use Rattle.cedar_policy_tests.specs.Written.{IsWritable};
 ghost use Rattle.cedar_cli.specs.Batch.{IsTold};
-ghost use Rattle.cedar_cli.specs.Questions.{IsGivenStore};
+ghost use Rattle.cedar_cli.specs.Questions.{IsKnownStore};
 ghost use Rattle.cedar_cli_tests.specs.Tested.{verdict_of};
 ghost use Rattle.cedar_cli_tests.specs.Results.{verdict_view, IsVerdictBy, IsRefusalTold};
 ghost use Rattle.cedar_cli_tests.specs.Texts.{AreTexts};
@@ -36,7 +36,7 @@ pub(crate) fn run_test(
     number: usize,
     extensions: &Extensions<'_>,
 ) -> Result<Verdict, AllocError>
-    requires given { IsGivenStore (extensions_view extensions.now) (calls_of extensions.now) asked.now store.now }
+    requires given { IsKnownStore (extensions_view extensions.now) (calls_of extensions.now) asked.now store.now }
     requires writable { IsWritable (test_view test) }
     ensures { IfOk result (λ v. IsVerdictBy (extensions_view extensions.now) (calls_of extensions.now)
         tested.entry.policies.now tested.entry.way asked.now number (test_view test.entry) (verdict_view v)) }
@@ -59,7 +59,7 @@ fn run_texts(
     number: usize,
     extensions: &Extensions<'_>,
 ) -> Result<Verdict, AllocError>
-    requires given { IsGivenStore (extensions_view extensions.now) (calls_of extensions.now) asked.now store.now }
+    requires given { IsKnownStore (extensions_view extensions.now) (calls_of extensions.now) asked.now store.now }
     requires texts { AreTexts (test_view test) texts.now }
     ensures { IfOk result (λ v. IsVerdictBy (extensions_view extensions.now) (calls_of extensions.now)
         tested.entry.policies.now tested.entry.way asked.now number (test_view test.entry) (verdict_view v)) }

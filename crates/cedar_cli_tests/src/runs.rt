@@ -7,7 +7,7 @@ ghost use Rattle.cedar_policy_tests.specs.Said as specs;
 ghost use Rattle.cedar_policy_tests.specs.Texts.{IsUnread};
 ghost use Rattle.cedar_policy_tests.specs.Views.{test_view, tests_view};
 ghost use Rattle.cedar_policy_tests.specs.Written.{AreWritable};
-ghost use Rattle.cedar_cli.specs.Questions.{IsGivenStore};
+ghost use Rattle.cedar_cli.specs.Questions.{IsKnownStore};
 ghost use Rattle.cedar_cli.specs.Reasons.{IsToldFor};
 ghost use Rattle.cedar_cli_tests.specs.Tested.{IsTested, AreUntested, AreNoTests};
 ghost use Rattle.cedar_cli_tests.specs.Results.{AreResults, AreTestedBy, AreReadTestedBy, IsTextTestedBy};
@@ -17,7 +17,7 @@ use crate::answers::Tested;
 use crate::one::run_test;
 use crate::results::Results;
 use cedar_cli::{
-    Asked, Printed, Refusal, Source, Way, given_store, read_over, refuse_with_line, tell_templates,
+    Asked, Printed, Refusal, Source, Way, known_store, read_over, refuse_with_line, tell_templates,
     unread_json,
 };
 use cedar_policy_core::ast::PolicySet;
@@ -90,7 +90,7 @@ fn run_read(
         (calls_of extensions.now) asked.now tests.entry.text.now)) }
 {
     let mut warnings = warnings?;
-    let store = given_store(alloc, asked, extensions, &mut warnings)?;
+    let store = known_store(alloc, asked, extensions, &mut warnings)?;
     let printed = run_text(
         alloc,
         tested,
@@ -113,7 +113,7 @@ fn run_text(
     extensions: &Extensions<'_>,
     warnings: String,
 ) -> Result<Printed, Refusal>
-    requires { IsGivenStore (extensions_view extensions.now) (calls_of extensions.now) asked.now store.now }
+    requires { IsKnownStore (extensions_view extensions.now) (calls_of extensions.now) asked.now store.now }
     ensures tested { IfOk result (IsTextTestedBy (extensions_view extensions.now) (calls_of extensions.now)
         tested.entry.policies.now tested.entry.way asked.now tests.entry.text.now) }
     ensures refused { IfErr result (IsToldFor (AreNoTests tests.entry.text.now)) }
@@ -149,7 +149,7 @@ fn run_value(
     extensions: &Extensions<'_>,
     warnings: String,
 ) -> Result<Printed, Refusal>
-    requires given { IsGivenStore (extensions_view extensions.now) (calls_of extensions.now) asked.now store.now }
+    requires given { IsKnownStore (extensions_view extensions.now) (calls_of extensions.now) asked.now store.now }
     requires writable { HasNumbers (value_view value.now) }
     ensures tested { IfOk result (AreReadTestedBy (extensions_view extensions.now) (calls_of extensions.now)
         tested.entry.policies.now tested.entry.way asked.now (value_view value.now)) }
@@ -183,7 +183,7 @@ fn run_all(
     extensions: &Extensions<'_>,
     warnings: String,
 ) -> Result<Printed, Refusal>
-    requires given { IsGivenStore (extensions_view extensions.now) (calls_of extensions.now) asked.now store.now }
+    requires given { IsKnownStore (extensions_view extensions.now) (calls_of extensions.now) asked.now store.now }
     requires writable { AreWritable (tests_view tests) }
     ensures tested { IfOk result (AreTestedBy (extensions_view extensions.now) (calls_of extensions.now)
         tested.entry.policies.now tested.entry.way asked.now (tests_view tests.entry)) }
@@ -205,7 +205,7 @@ fn run_each(
     tests: &[PolicyTest<'_, '_>],
     extensions: &Extensions<'_>,
 ) -> Result<Results, AllocError>
-    requires given { IsGivenStore (extensions_view extensions.now) (calls_of extensions.now) asked.now store.now }
+    requires given { IsKnownStore (extensions_view extensions.now) (calls_of extensions.now) asked.now store.now }
     requires writable { AreWritable (map test_view tests.now) }
     ensures { IfOk result (AreResults (extensions_view extensions.now) (calls_of extensions.now)
         tested.entry.policies.now tested.entry.way asked.now (map test_view tests.now)) }

@@ -80,8 +80,12 @@ fn error_handling<'a>(alloc: Global) -> Arg<'a> {
         .default_value("skip")
 }
 
-// The command with the arguments that say what is asked.
-fn with_request<'a>(alloc: Global, command: Command<'a>) -> Result<Command<'a>, AllocError> {
+// The command with the arguments that say what is asked, over which entities.
+fn with_request<'a>(
+    alloc: Global,
+    command: Command<'a>,
+    entities: Arg<'a>,
+) -> Result<Command<'a>, AllocError> {
     let principal = option(alloc, "principal", "ENTITY", "Who asks, as User::\"alice\"");
     let action = option(alloc, "action", "ENTITY", "What to do, as Action::\"view\"");
     let resource = option(alloc, "resource", "ENTITY", "With what, as Photo::\"trip\"");
@@ -92,7 +96,7 @@ fn with_request<'a>(alloc: Global, command: Command<'a>) -> Result<Command<'a>, 
         .arg(resource.short('r'))?
         .arg(context.short('c'))?
         .arg(request_json(alloc)?)?
-        .arg(entities(alloc))?
+        .arg(entities)?
         .arg(max_ancestors(alloc))
 }
 
@@ -143,7 +147,7 @@ fn authorize<'a>(alloc: Global) -> Result<Command<'a>, AllocError> {
         .arg(json(alloc))?
         .arg(explain(alloc)?)?
         .arg(no_values(alloc)?)?;
-    with_request(alloc, command)
+    with_request(alloc, command, entities(alloc).required(true))
 }
 
 fn diff<'a>(alloc: Global) -> Result<Command<'a>, AllocError> {
@@ -162,7 +166,7 @@ fn diff<'a>(alloc: Global) -> Result<Command<'a>, AllocError> {
         .arg(requests.required(true))?
         .arg(error_handling(alloc))?
         .arg(limit(alloc))?
-        .arg(entities(alloc))?
+        .arg(entities(alloc).required(true))?
         .arg(max_ancestors(alloc))
 }
 
@@ -204,7 +208,7 @@ fn partially_authorize<'a>(alloc: Global) -> Result<Command<'a>, AllocError> {
         .arg(template_linked(alloc))?
         .arg(error_handling(alloc))?
         .arg(limit(alloc))?;
-    with_request(alloc, with_stages(alloc, command)?)
+    with_request(alloc, with_stages(alloc, command)?, entities(alloc))
 }
 
 // The command with the arguments of steps and rows, and of what is not all known.
@@ -296,7 +300,7 @@ fn evaluate<'a>(alloc: Global) -> Result<Command<'a>, AllocError> {
         .arg(expression)?
         .arg(limit(alloc))?
         .arg(json(alloc))?;
-    with_request(alloc, command)
+    with_request(alloc, command, entities(alloc))
 }
 
 fn check_parse<'a>(alloc: Global) -> Result<Command<'a>, AllocError> {
@@ -306,6 +310,7 @@ fn check_parse<'a>(alloc: Global) -> Result<Command<'a>, AllocError> {
         .arg(policy_format(alloc))?
         .arg(template_linked(alloc))?
         .arg(flag(alloc, "strict", "Tells the policies that apply in no world"))?
+        .arg(flag(alloc, "unknowns", "The policies may call `unknown`"))?
         .arg(deny_warnings(alloc)?)
 }
 

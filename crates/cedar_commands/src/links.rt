@@ -47,7 +47,7 @@ fn refusal(alloc: Global, policies: Source<'_>, links: &str, error: &LinkedTextE
 
 #[cold]
 fn unread(alloc: Global, policies: Source<'_>) -> Refusal {
-    match check_policies(alloc, policies) {
+    match check_policies(alloc, policies, true) {
         Err(refusal) => refusal,
         Ok(()) => {
             let name = policies.name;

@@ -209,10 +209,16 @@ fn check(
     policies: Source<'_>,
     matches: &ArgMatches<'_>,
 ) -> Result<Printed, Refusal> {
+    let has_unknowns = matches.get_flag("unknowns");
     if matches.get_flag("strict") {
-        check_strictly(alloc, policies, matches.get_flag("deny-warnings"))
+        check_strictly(
+            alloc,
+            policies,
+            has_unknowns,
+            matches.get_flag("deny-warnings"),
+        )
     } else {
-        check_policies(alloc, policies)?;
+        check_policies(alloc, policies, has_unknowns)?;
         Ok(nothing(alloc))
     }
 }
@@ -224,7 +230,7 @@ fn translate(
     matches: &ArgMatches<'_>,
 ) -> Result<Printed, Refusal> {
     if matches.get_str("direction") == Some("json-to-cedar") {
-        check_policies(alloc, policies)?;
+        check_policies(alloc, policies, true)?;
         Ok(printed_alone(alloc, String::from_str(alloc, policies.text)?))
     } else {
         Ok(printed_alone(alloc, translate_to_json(alloc, policies)?))

@@ -46,7 +46,7 @@ module _ (Such : PartialValue → Type 0) where
   -- ---- a store of entities that are these but for their ancestors
 
   -- what stands under a name has such parts
-  abbrev StandsSuch : Option Entity → Type 0
+  abbrev pub StandsSuch : Option Entity → Type 0
   StandsSuch None = Unit {0}
   StandsSuch (Some e) = Facts (entity_view e)
 
@@ -55,7 +55,7 @@ module _ (Such : PartialValue → Type 0) where
   stands_by true e o h k = h
   stands_by false e o h k = k
 
-  standing_such : (before : Standing) (es : List Entity) → ((n : EntityName) → StandsSuch (before n))
+  pub standing_such : (before : Standing) (es : List Entity) → ((n : EntityName) → StandsSuch (before n))
       → EachHas Such es → (n : EntityName) → StandsSuch (standing_with_each before es n)
   standing_such before [] h k n = h n
   standing_such before (e ∷ es) h k n =
@@ -70,14 +70,14 @@ module _ (Such : PartialValue → Type 0) where
     λ at. (h k p).1 (sym (ap (λ es. part_at k (parts_view es)) same.tags) ∙ at),
   )
 
-  alike_such : (o s : Option Entity) → AreAlike o s → StandsSuch o → StandsSuch s
+  pub alike_such : (o s : Option Entity) → AreAlike o s → StandsSuch o → StandsSuch s
   alike_such None None a h = tt
   alike_such None (Some f) a h = absurd a
   alike_such (Some e) None a h = absurd a
   alike_such (Some e) (Some f) a h = kept_such e f a h
 
   -- the facts of what stands there
-  facts_such : (s : Option Entity) (x : StoredEntity) → StandsSuch s → option_map entity_view s ≡ Some x
+  pub facts_such : (s : Option Entity) (x : StoredEntity) → StandsSuch s → option_map entity_view s ≡ Some x
       → Facts x
   facts_such None x h e = absurd (none_is_not_some e)
   facts_such (Some f) x h e = subst Facts (some_inj e) h

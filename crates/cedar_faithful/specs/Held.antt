@@ -1,32 +1,21 @@
 -- What entities and maps of values hold: no extension value, or faithful values; and which value is answered.
-use Rattle.std.specs.Prelude.{◌≡◌, ℕ, List, [], ◌∷◌, Some}
+use Rattle.std.specs.Prelude.{◌≡◌, ℕ, List, [], ◌∷◌}
 use Rattle.std.specs.declared.alloc.Global.{Global}
 use Rattle.std.specs.declared.rc.RcStr.{RcStr}
 use Rattle.cedar_model.specs.Terms.{Text, Term}
 use Rattle.cedar_model.specs.Values.{Represented}
 use Rattle.cedar_model.specs.World.{Extensions, Functions}
 use Rattle.cedar_model.specs.Failures.{PartialValue, value, answers}
-use Rattle.cedar_model.specs.Settings.{StoredEntity, Setting, part_at}
+use Rattle.cedar_model.specs.Settings.{StoredEntity, Setting}
 use Rattle.cedar_model.specs.Rules.{StoredCalls}
 use Rattle.cedar_model.specs.Agreement.{IsFaithfulPart}
 use Rattle.cedar_laws.specs.Faithful.{PartHoldsNoExtensionValue}
 use Rattle.cedar_values.specs.Sound.{Placed}
 use Rattle.cedar_layers.specs.declared.policies.entities.Entity.{Entity}
-use Rattle.cedar_layers.specs.Stores.{entity_view}
 use Rattle.cedar_restricted.specs.Evaluations.{IsBare, IsValueWithin}
+pub use Rattle.cedar_json_reader.specs.Held.{FactsAre, EachHas}
 
 -- ---- entities
-
--- each attribute and each tag of an entity is such a part
-abbrev pub FactsAre : (PartialValue → Type 0) → StoredEntity → Type 0
-FactsAre Such x =
-    (k : Text) (p : PartialValue) → (part_at k x.attributes ≡ Some p → Such p)
-    × (part_at k x.tags ≡ Some p → Such p)
-
--- so it is of each of these entities
-abbrev pub EachHas : (PartialValue → Type 0) → List Entity → Type 0
-EachHas Such [] = Unit {0}
-EachHas Such (e ∷ es) = FactsAre Such (entity_view e) × EachHas Such es
 
 -- no attribute and no tag of an entity holds an extension value
 abbrev pub FactsHoldNoExtensionValue : StoredEntity → Type 0

@@ -13,3 +13,4 @@ pub mod Answered
 pub mod SeenEntities
 pub mod RequestLemmas
 pub mod Failed
+pub mod UnknownLemmas

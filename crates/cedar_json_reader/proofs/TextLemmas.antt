@@ -67,7 +67,7 @@ refusal_of_value s (errors.Refused p r) h = tt
 refusal_of_value s (errors.Evaluation p y) h = tt
 refusal_of_value s (errors.Memory m) h = tt
 
-part_of_value : (path : List Step) (r : RefusalReason) (e : JsonError) → IsRefusedAt path r e → IsOfValue e
+pub part_of_value : (path : List Step) (r : RefusalReason) (e : JsonError) → IsRefusedAt path r e → IsOfValue e
 part_of_value path r errors.Syntax h = h
 part_of_value path r errors.DuplicateKey h = h
 part_of_value path r (errors.Refused p q) h = tt

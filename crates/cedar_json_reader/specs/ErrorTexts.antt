@@ -46,6 +46,7 @@ reason_text reasons.NotAnArray = codes "not an array"
 reason_text reasons.UnexpectedMember = codes "unexpected"
 reason_text reasons.MissingMember = codes "missing"
 reason_text reasons.RepeatedEntity = codes "the entity comes again"
+reason_text reasons.Unknown = codes "an unknown stands in it"
 
 abbrev pub refusal_text : List Step → RefusalReason → Text
 refusal_text path reason = path_text path ++ (codes ": " ++ reason_text reason)

@@ -46,6 +46,8 @@ pub enum RefusalReason {
     MissingMember,
     /// An entity that stands in the array before.
     RepeatedEntity,
+    /// A value in which an unknown stands, where nothing may be unknown.
+    Unknown,
 }
 
 /// Why JSON was not read.
@@ -179,6 +181,7 @@ impl fmt::Display for RefusalReason {
             RefusalReason::UnexpectedMember => f.write_str("unexpected"),
             RefusalReason::MissingMember => f.write_str("missing"),
             RefusalReason::RepeatedEntity => f.write_str("the entity comes again"),
+            RefusalReason::Unknown => f.write_str("an unknown stands in it"),
         }
     }
 }

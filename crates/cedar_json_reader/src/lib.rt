@@ -15,7 +15,7 @@
 //!
 //! Files: `texts` has the calls on JSON texts; `values`, `contexts`, `entities`, `requests` what each says;
 //! `evaluation` evaluates attributes and tags; `shapes`, `escapes`, `names` are of objects that are no record;
-//! `paths`, `errors` of refusals.
+//! `paths`, `errors` of refusals; `unknowns` refuses what is not known, where nothing may be unknown.
 //!
 //! The promise: each call answers exactly what the JSON says (clauses `said`, `made`, `evaluated`; `specs/Said.antt`
 //! and its kin, `specs/Evaluated.antt`), or the refusal that is due first with the way to that part (`refused`,
@@ -32,6 +32,7 @@ mod paths;
 mod requests;
 mod shapes;
 mod texts;
+mod unknowns;
 mod values;
 
 pub use entities::StatedEntity;
@@ -39,7 +40,8 @@ pub use errors::{JsonError, RefusalReason};
 pub use evaluation::evaluated_entities;
 pub use paths::{JsonPath, PathStep};
 pub use texts::{
-    context_from_json_str, entities_from_json_str, request_from_json_str,
+    context_from_json_str, entities_from_json_str, known_context_from_json_str,
+    known_entities_from_json_str, known_request_from_json_str, request_from_json_str,
     restricted_expr_from_json_str, stated_entities_from_json_str,
 };
 pub use values::restricted_expr_from_json_value;

@@ -13,6 +13,11 @@ ghost use Rattle.cedar_json_reader.specs.SaidContexts.{context_said, IsContextOf
 ghost use Rattle.cedar_json_reader.specs.SaidRequests.{IsRequestOf, IsRequestRefusal};
 ghost use Rattle.cedar_json_reader.specs.Evaluated.{AreEntitiesOf};
 ghost use Rattle.cedar_json_reader.specs.FailedEntities.{IsEntitiesError};
+ghost use Rattle.cedar_model.specs.Agreement.{IsKnownContext};
+ghost use Rattle.cedar_requests.specs.Contexts.{context_view};
+ghost use Rattle.cedar_requests.specs.Requests.{request_view};
+ghost use Rattle.cedar_json_reader.specs.NothingUnknown.{AreKnownEntities, IsKnownRequest, IsKnownContextRefusal};
+ghost use Rattle.cedar_json_reader.specs.NothingUnknown.{IsKnownEntitiesError, IsKnownRequestRefusal};
 ghost use Rattle.cedar_extensions.specs.Extensions.{extensions_view, calls_of};
 
 use crate::contexts::context_from_json_value;
@@ -20,6 +25,7 @@ use crate::entities::{StatedEntity, stated_entities_from_json_value};
 use crate::errors::JsonError;
 use crate::evaluation::evaluated_entities;
 use crate::requests::request_from_json_value;
+use crate::unknowns::{refuse_unknown_context, refuse_unknown_entities, refuse_unknown_request};
 use crate::values::restricted_expr_from_json_value;
 use cedar_extensions::Extensions;
 use cedar_layers::policies::Entity;
@@ -128,6 +134,89 @@ pub fn request_from_json_str(
     let mut scratch = Scratch::new(alloc);
     match parse_json(alloc, text, &mut scratch) {
         Ok(value) => request_from_json_value(alloc, &value, extensions, limit),
+        Err(error) => Err(error),
+    }
+}
+
+/// The context that the text says, as `context_from_json_str` reads it, where nothing may be unknown: refuses one in
+/// which an unknown stands with `Unknown`, at the first attribute in which one does.
+pub fn known_context_from_json_str(
+    alloc: Global,
+    text: &str,
+    extensions: &Extensions<'_>,
+    limit: usize,
+) -> Result<Context, JsonError>
+    ensures made { IfOk result
+        (λ c. SaysSo text.now (λ j. IsContextOf (extensions_view extensions.now) (calls_of extensions.now) limit
+        (context_said j) c)) }
+    ensures known { IfOk result (λ c. IsKnownContext (context_view c)) }
+    ensures refused { IfErr result
+        (IsTextError text.now (λ j e. IsKnownContextRefusal (extensions_view extensions.now) (calls_of extensions.now)
+        limit (context_said j) [] e)) }
+{
+    match context_from_json_str(alloc, text, extensions, limit) {
+        Ok(context) => match refuse_unknown_context(alloc, &context) {
+            Ok(()) => Ok(context),
+            Err(error) => {
+                drop(context);
+                Err(error)
+            }
+        },
+        Err(error) => Err(error),
+    }
+}
+
+/// The entities that the text says, as `entities_from_json_str` reads them, where nothing may be unknown: refuses those
+/// in which an unknown stands with `Unknown`, at the first attribute or tag in which one does.
+pub fn known_entities_from_json_str(
+    alloc: Global,
+    text: &str,
+    extensions: &Extensions<'_>,
+    limit: usize,
+) -> Result<Vec<Entity>, JsonError>
+    ensures made { IfOk result
+        (λ r. SaysSo text.now (λ j. AreEntitiesOf (extensions_view extensions.now) (calls_of extensions.now) limit
+        (entities_said j) r.items)) }
+    ensures known { IfOk result (λ r. AreKnownEntities r.items) }
+    ensures refused { IfErr result
+        (IsTextError text.now (λ j e. IsKnownEntitiesError (extensions_view extensions.now) (calls_of extensions.now)
+        limit (entities_said j) e)) }
+{
+    match entities_from_json_str(alloc, text, extensions, limit) {
+        Ok(entities) => match refuse_unknown_entities(alloc, entities.as_slice()) {
+            Ok(()) => Ok(entities),
+            Err(error) => {
+                drop(entities);
+                Err(error)
+            }
+        },
+        Err(error) => Err(error),
+    }
+}
+
+/// The request that the text says, as `request_from_json_str` reads it, where nothing may be unknown: refuses one in
+/// whose context an unknown stands with `Unknown`, at the first attribute in which one does.
+pub fn known_request_from_json_str(
+    alloc: Global,
+    text: &str,
+    extensions: &Extensions<'_>,
+    limit: usize,
+) -> Result<Request, JsonError>
+    ensures made { IfOk result
+        (λ r. SaysSo text.now (λ j. IsRequestOf (extensions_view extensions.now) (calls_of extensions.now) limit j r)) }
+    ensures known { IfOk result (λ r. IsKnownRequest (request_view r)) }
+    ensures refused { IfErr result
+        (IsTextError text.now (λ j e. IsKnownRequestRefusal (extensions_view extensions.now) (calls_of extensions.now)
+        limit j e)) }
+{
+    match request_from_json_str(alloc, text, extensions, limit) {
+        Ok(request) => match refuse_unknown_request(alloc, &request) {
+            Ok(()) => Ok(request),
+            Err(error) => {
+                drop(request);
+                Err(error)
+            }
+        },
         Err(error) => Err(error),
     }
 }

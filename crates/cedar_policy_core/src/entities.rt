@@ -23,7 +23,8 @@ pub mod laws {
 pub mod json {
     pub use cedar_json_reader::{
         JsonError, JsonPath, PathStep, RefusalReason, StatedEntity, context_from_json_str,
-        entities_from_json_str, evaluated_entities, request_from_json_str,
+        entities_from_json_str, evaluated_entities, known_context_from_json_str,
+        known_entities_from_json_str, known_request_from_json_str, request_from_json_str,
         restricted_expr_from_json_str, restricted_expr_from_json_value,
         stated_entities_from_json_str,
     };

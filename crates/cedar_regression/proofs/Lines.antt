@@ -26,10 +26,10 @@ use Rattle.cedar_cli.specs.declared.asked.Way.{Way}
 use Rattle.cedar_cli.specs.declared.refusal.Refusal.{Refusal}
 use Rattle.cedar_cli.specs.declared.refusal.Refusal.TheVariants as refusals
 use Rattle.cedar_cli.specs.Batch.{asking, IsRefusalLine, IsTold}
-use Rattle.cedar_cli.specs.Questions.{levels, IsGivenStore}
+use Rattle.cedar_cli.specs.Questions.{levels, IsKnownStore}
 use Rattle.cedar_cli.specs.Reasons.{IsToldFor}
 use Rattle.cedar_cli.specs.Standard.{standard_extensions, standard_calls, standard_knowledge}
-use Rattle.cedar_cli.proofs.Exact.{exactly}
+use Rattle.cedar_cli.proofs.Exact.{exactly, none_unknown}
 use Rattle.cedar_regression.specs.Answered.{IsAnswerOver, IsAnswerOf}
 use Rattle.cedar_regression.specs.Compared.{IsLineAs, IsLine}
 
@@ -119,18 +119,21 @@ module _ (A B C D : Asked → AnswerView → Type 0) (Unread : Asked → Type 0)
 module _ (calls : ReadPoliciesCallKnown) (ask : AskNothing) (agree : AgreesWithFunctions standard_answers standard_calls)
     (text : Text) (parsed : ParsedPolicies) (read : AreAllRead standard_knowledge text levels parsed)
     (low : AreAllNoHigher (with_scope levels) parsed) (s : Entities) (w : Way) where
-  pub answered_alone : (q : Asked) (a : AnswerView) → IsGivenStore standard_extensions standard_calls q s
+  pub answered_alone : (q : Asked) (a : AnswerView) → IsKnownStore standard_extensions standard_calls q s
       → IsAnswerOver standard_extensions standard_calls parsed.policies s w q a → IsAnswerOf text w q a
-  answered_alone q a store by = record {
-    parsed = parsed;
-    entities = s;
-    request = by.request;
-    response = by.response;
-    policies_are = read;
-    store_is = store;
-    request_is = by.request_is;
-    response_is = by.response_is;
-    exact = exactly calls ask agree standard_knowledge text parsed read low s by.request w (response_view by.response)
-        by.response_is;
-    answer_is = by.answer_is;
-  }
+  answered_alone q a store by =
+      let nothing = none_unknown standard_extensions standard_calls q s by.request store by.request_is in
+      record {
+        parsed = parsed;
+        entities = s;
+        request = by.request;
+        response = by.response;
+        policies_are = read;
+        store_is = store;
+        request_is = by.request_is;
+        nothing_unknown = nothing;
+        response_is = by.response_is;
+        exact = exactly calls ask agree standard_knowledge text parsed read low s by.request w (response_view by.response)
+            by.response_is nothing;
+        answer_is = by.answer_is;
+      }

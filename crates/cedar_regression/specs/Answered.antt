@@ -4,6 +4,7 @@ use Rattle.cedar_model.specs.Terms.{Text}
 use Rattle.cedar_model.specs.World as world
 use Rattle.cedar_model.specs.Rules.{StoredCalls}
 use Rattle.cedar_decisions.specs.Decisions.{mode_view}
+use Rattle.cedar_model.specs.Agreement.{HasNothingUnknown}
 use Rattle.cedar_layers.specs.declared.policies.entities.Entities.{Entities}
 use Rattle.cedar_layers.specs.declared.policies.policy_set.PolicySet.{PolicySet}
 use Rattle.cedar_layers.specs.PolicySets.{policies_view}
@@ -15,8 +16,8 @@ use Rattle.cedar_authorizer.specs.responses.Responses.{response_view}
 use Rattle.cedar_expectations.specs.Answers.{AnswerView}
 use Rattle.cedar_cli.specs.declared.asked.Asked.{Asked}
 use Rattle.cedar_cli.specs.declared.asked.Way.{Way}
-use Rattle.cedar_cli.specs.Authorized.{IsResponseTo, IsExact}
-use Rattle.cedar_cli.specs.Questions.{levels, IsWholeRequest, IsGivenStore}
+use Rattle.cedar_cli.specs.Authorized.{setting_of, IsResponseTo, IsExact}
+use Rattle.cedar_cli.specs.Questions.{levels, IsWholeRequest, IsKnownStore}
 use Rattle.cedar_cli.specs.Standard.{standard_extensions, standard_calls, standard_knowledge}
 use Rattle.cedar_expectations.specs.Named.{IsAnswerIn}
 
@@ -38,8 +39,10 @@ pub record IsAnswerOf (text : Text) (w : Way) (q : Asked) (a : AnswerView) : Typ
   -- the policies are those that the text's tokens derive
   pub policies_are : AreAllRead standard_knowledge text levels parsed
   -- the entities, each with all its ancestors, and the request are those that the texts say
-  pub store_is : IsGivenStore standard_extensions standard_calls q entities
+  pub store_is : IsKnownStore standard_extensions standard_calls q entities
   pub request_is : IsWholeRequest standard_extensions standard_calls q request
+  -- nothing is unknown in them
+  pub nothing_unknown : HasNothingUnknown (setting_of standard_extensions request entities)
   -- decision, reasons and errors are those of the policies; without a limit that is set, exactly
   pub response_is :
       IsResponseTo standard_extensions standard_calls parsed.policies entities request w (response_view response)

@@ -16,8 +16,8 @@ use Rattle.cedar_cli.specs.declared.asked.Source.{Source}
 use Rattle.cedar_cli.specs.declared.asked.Way.{Way}
 use Rattle.cedar_cli.specs.declared.decisions.Printed.{Printed}
 use Rattle.cedar_cli.specs.Batch.{asking, IsRefusalLine}
-use Rattle.cedar_cli.specs.Questions.{IsGivenStore}
-use Rattle.cedar_cli.specs.Reasons.{ArePoliciesUnread, IsStoreUnread, IsRequestUnread}
+use Rattle.cedar_cli.specs.Questions.{IsKnownStore}
+use Rattle.cedar_cli.specs.Reasons.{ArePoliciesUnread, IsKnownStoreUnread, IsRequestUnread}
 use Rattle.cedar_cli.specs.Standard.{standard_extensions, standard_calls, standard_knowledge}
 use Rattle.cedar_regression.specs.declared.answers.Both.{Both}
 use Rattle.cedar_regression.specs.Answered.{IsAnswerOver, IsAnswerOf}
@@ -78,7 +78,7 @@ AreCompared old new q requests w p =
 pub data AreUncompared (old new : Text) (q : Asked) : Type 0 where
   old_unread : ArePoliciesUnread standard_knowledge old → AreUncompared old new q
   new_unread : ArePoliciesUnread standard_knowledge new → AreUncompared old new q
-  entities_unread : IsStoreUnread standard_extensions standard_calls q.entities q.max_ancestors
+  entities_unread : IsKnownStoreUnread standard_extensions standard_calls q.entities q.max_ancestors
       → AreUncompared old new q
 
 -- ---- for private clauses
@@ -114,5 +114,5 @@ AreComparedOver X calls old new s q w ls p =
 pub record AreComparedBy (X : world.Extensions) (calls : StoredCalls) (old new : PolicySet) (q : Asked) (requests : Text)
     (w : Way) (p : Printed) : Type 0 where
   pub entities : Entities
-  pub store_is : IsGivenStore X calls q entities
+  pub store_is : IsKnownStore X calls q entities
   pub compared : AreComparedOver X calls old new entities q w (asked_lines requests) p

@@ -6,13 +6,13 @@ ghost use Rattle.cedar_extensions.specs.Extensions.{extensions_view, calls_of};
 ghost use Rattle.cedar_expectations.specs.Answers.{answer_view};
 ghost use Rattle.cedar_expectations.specs.Compared.{comparison_view, compared, status_of};
 ghost use Rattle.cedar_cli.specs.Batch.{asking, IsTold, IsRefusalLine};
-ghost use Rattle.cedar_cli.specs.Reasons.{IsToldFor, IsStoreUnread};
+ghost use Rattle.cedar_cli.specs.Reasons.{IsToldFor, IsKnownStoreUnread};
 ghost use Rattle.cedar_regression.specs.Compared.{AreCompared, AreUncompared, AreComparedBy, AreComparedOver};
 ghost use Rattle.cedar_regression.specs.Compared.{asked_lines, AreLinesOver, IsLineOver};
 
 use crate::answers::{Both, both_answers};
 use cedar_cli::{
-    Asked, Printed, Refusal, Source, Way, given_store, line_of, read_over, refusal_document,
+    Asked, Printed, Refusal, Source, Way, known_store, line_of, read_over, refusal_document,
     tell_templates,
 };
 use cedar_expectations::{Comparison, Comparisons, compare};
@@ -99,11 +99,11 @@ fn compare_read(
     ensures compared { IfOk result (AreComparedBy (extensions_view extensions.now) (calls_of extensions.now)
         old.now new.now asked.now requests.now way) }
     ensures refused { IfErr result (IsToldFor
-        (IsStoreUnread (extensions_view extensions.now) (calls_of extensions.now) asked.now.entities
+        (IsKnownStoreUnread (extensions_view extensions.now) (calls_of extensions.now) asked.now.entities
         asked.now.max_ancestors)) }
 {
     let mut warnings = warnings?;
-    let store = given_store(alloc, asked, extensions, &mut warnings)?;
+    let store = known_store(alloc, asked, extensions, &mut warnings)?;
     let printed = compare_text(
         alloc,
         old,

@@ -1,9 +1,13 @@
 //! The options.
 use crate::refusal::{Refusal, refuse_with_line};
+use cedar_service::RequestProperties;
 use clap::builder::ValueParser;
 use clap::error::ErrorKind;
 use clap::{Arg, ArgAction, ArgMatches, Command, Error};
 use std::alloc::{AllocError, Global};
+
+// The values of `--request-properties`.
+const PROPERTIES: [&str; 4] = ["none", "unstored", "beside", "win"];
 
 /// What the options say.
 #[derive(Clone, Copy)]
@@ -20,8 +24,8 @@ pub(crate) struct Options<'a> {
     pub(crate) is_lines: bool,
     /// Whether requests may put other policies and entities in place of these.
     pub(crate) allows_reload: bool,
-    /// Whether the attributes of a request stand instead of those that are stored.
-    pub(crate) request_wins: bool,
+    /// Of which entities the properties of an evaluation are taken.
+    pub(crate) properties: RequestProperties,
     /// The type of the actions, if that is said.
     pub(crate) action_type: Option<&'a str>,
     /// How many bytes the body of a request may have, if that is said.
@@ -35,8 +39,6 @@ pub(crate) fn command<'a>(alloc: Global) -> Result<Command<'a>, AllocError> {
     let url = "Where the service is, as https://pdp.example.com, for AuthZEN's metadata";
     let page_size = "How many a page of a search has at most; left out, 100";
     let allow_reload = "Takes PUT /v1/policies and PUT /v1/entities from whoever is connected";
-    let wins =
-        "Takes a request's own attributes instead of those that are stored, where both have one";
     let max_body = "How many bytes a body may have; left out, 1,048,576";
     Command::new(alloc, "cedar_serve")
         .bin_name("cedar_serve")?
@@ -48,7 +50,7 @@ pub(crate) fn command<'a>(alloc: Global) -> Result<Command<'a>, AllocError> {
             1, 1_000_000,
         )))?
         .arg(flag(alloc, "allow-reload", allow_reload))?
-        .arg(flag(alloc, "request-attributes-win", wins))?
+        .arg(request_properties(alloc)?)?
         .arg(action_type(alloc)?)?
         .arg(lines(alloc)?)?
         .arg(log(alloc))?
@@ -74,7 +76,6 @@ fn lines<'a>(alloc: Global) -> Result<Arg<'a>, AllocError> {
         .conflicts_with("url")?
         .conflicts_with("page-size")?
         .conflicts_with("allow-reload")?
-        .conflicts_with("request-attributes-win")?
         .conflicts_with("max-body")
 }
 
@@ -84,6 +85,27 @@ fn action_type<'a>(alloc: Global) -> Result<Arg<'a>, AllocError> {
     option(alloc, "action-type", "TYPE", help)
         .conflicts_with("log")?
         .conflicts_with("lines")
+}
+
+// Lines have no properties.
+fn request_properties<'a>(alloc: Global) -> Result<Arg<'a>, AllocError> {
+    let help =
+        "Of which entities AuthZEN's properties are taken: of none, of those that are not stored, \
+        of all beside stored attributes, or of all, where they win over stored ones; left out, none";
+    let option = option(alloc, "request-properties", "ENTITIES", help);
+    option
+        .value_parser(ValueParser::Names(&PROPERTIES))
+        .conflicts_with("lines")
+}
+
+// What is no word of these does not come here.
+fn properties_of(word: Option<&str>) -> RequestProperties {
+    match word {
+        Some("unstored") => RequestProperties::Unstored,
+        Some("beside") => RequestProperties::Beside,
+        Some("win") => RequestProperties::Win,
+        _ => RequestProperties::None,
+    }
 }
 
 fn log<'a>(alloc: Global) -> Arg<'a> {
@@ -113,7 +135,7 @@ pub(crate) fn options_of<'a>(matches: &ArgMatches<'a>) -> Options<'a> {
         page_size: matches.get_one::<usize>("page-size"),
         is_lines: matches.get_flag("lines"),
         allows_reload: matches.get_flag("allow-reload"),
-        request_wins: matches.get_flag("request-attributes-win"),
+        properties: properties_of(matches.get_str("request-properties")),
         action_type: matches.get_str("action-type"),
         max_body: matches.get_one::<usize>("max-body"),
         log: matches.get_str("log"),

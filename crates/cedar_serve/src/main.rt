@@ -135,7 +135,7 @@ fn serve_files<R: Files + Input + AllocGlobal + Print + RandomSource>(
     let policies = file_text(rt, options.policies)?;
     let entities = file_text(rt, options.entities)?;
     let ways = Ways {
-        request_wins: options.request_wins,
+        properties: options.properties,
         action_type: action_type.as_str(),
     };
     let texts = Texts {

@@ -2,6 +2,7 @@ mod Told
 mod Held
 mod Alone
 mod Known
+mod KnownStores
 mod Exact
 mod Composed
 mod Responding

@@ -1,5 +1,5 @@
 -- What is brought beside what is stored, from the text on.
-use Rattle.std.proofs.Common.{◌≡◌, refl, sym, subst, true, false, ◌==◌, length, arith, List, [], ◌∷◌, Option, Some, codes}
+use Rattle.std.proofs.Common.{◌≡◌, refl, sym, subst, true, false, ◌==◌, length, arith, List, [], ◌∷◌, Option, None, Some, codes}
 use Rattle.std.proofs.lemmas.Bool.Decides.{nat_tests}
 use Rattle.std.specs.Prelude.{IsSomeAnd}
 use Rattle.json.specs.Find.{get}
@@ -15,8 +15,8 @@ use Rattle.cedar_overlay.specs.declared.entities_error.EntitiesError.{EntitiesEr
 use Rattle.cedar_overlay.specs.Added.{IsRefusedOf}
 use Rattle.cedar_json_reader.specs.declared.errors.JsonError.{JsonError}
 use Rattle.cedar_json_reader.specs.Evaluated.{AreEntitiesOf}
-use Rattle.cedar_json_reader.specs.FailedEntities.{IsEntitiesError}
-use Rattle.cedar_json_reader.specs.JsonTexts.{IsUnread, IsTextError}
+use Rattle.cedar_json_reader.specs.NothingUnknown.{AreKnownEntities, IsKnownEntitiesError}
+use Rattle.cedar_json_reader.specs.JsonTexts.{IsUnread, SaysSo, IsTextError}
 use Rattle.cedar_json_reader.specs.SaidEntities.{entities_said}
 use Rattle.cedar_service.specs.declared.faults.Refusal.{Refusal}
 use Rattle.cedar_service.specs.declared.faults.Refusal.TheVariants as refusals
@@ -50,10 +50,19 @@ module _ (X : world.Extensions) (calls : StoredCalls) (s : Entities) where
   -- what a text says of entities, its JSON says
   pub brought_as_json : (text : Text) (j : Json) (made : Entities) → IsTextFor j text → IsBroughtAs X calls s text made
       → IsBroughtOver X calls s (Some j) made
-  brought_as_json text j made is (es, said, over) = (es, of_some (λ k. AreEntitiesOf X calls levels (entities_said k) es) (document text) j is said, over)
+  brought_as_json text j made is (es, said, over) = (es, of_some (λ k. AreEntitiesOf X calls levels (entities_said k) es × AreKnownEntities es) (document text) j is said, over)
+
+  -- and they are known
+  pub said_known : (text : Text) (es : List Entity) → SaysSo text (λ j. AreEntitiesOf X calls levels (entities_said j) es)
+      → AreKnownEntities es → SaysSo text (λ j. AreEntitiesOf X calls levels (entities_said j) es × AreKnownEntities es)
+  said_known text es said known = in_document (document text) said where
+    in_document : (o : Option Json) → IsSomeAnd o (λ j. HasUniqueKeys j × AreEntitiesOf X calls levels (entities_said j) es)
+        → IsSomeAnd o (λ j. HasUniqueKeys j × (AreEntitiesOf X calls levels (entities_said j) es × AreKnownEntities es))
+    in_document None h = absurd h
+    in_document (Some j) h = (h.0, (h.1, known))
 
   pub unread_entities : (text : Text) (e : JsonError)
-      → IsTextError text (λ j e. IsEntitiesError X calls levels (entities_said j) e) e → (r : Refusal)
+      → IsTextError text (λ j e. IsKnownEntitiesError X calls levels (entities_said j) e) e → (r : Refusal)
       → IsToldAs (λ _. IsOfJson e) r → IsToldAs (IsFaultBelow (codes "$.entities")) r
       → IsToldAs (IsUnbroughtAs X calls s text) r
   unread_entities text e is refusals.Memory of told = tt

@@ -14,7 +14,7 @@ use Rattle.cedar_json_reader.specs.declared.errors.JsonError.{JsonError}
 use Rattle.cedar_json_reader.specs.JsonTexts.{SaysSo, IsTextError}
 use Rattle.cedar_json_reader.specs.SaidEntities.{entities_said}
 use Rattle.cedar_json_reader.specs.Evaluated.{AreEntitiesOf}
-use Rattle.cedar_json_reader.specs.FailedEntities.{IsEntitiesError}
+use Rattle.cedar_json_reader.specs.NothingUnknown.{IsKnownEntitiesError}
 use Rattle.cedar_service.specs.declared.engine.NotStarted.{NotStarted}
 use Rattle.cedar_service.specs.declared.engine.NotStarted.TheVariants as failures
 use Rattle.cedar_service.specs.Asked.{levels}
@@ -36,12 +36,12 @@ cyclic es e failures.Memory h is = tt
 
 module _ (X : world.Extensions) (calls : StoredCalls) (text : Text) where
   pub unread_failure : (e : JsonError) (f : NotStarted)
-      → IsTextError text (λ j x. IsEntitiesError X calls levels (entities_said j) x) e → IsUnreadAs e f
+      → IsTextError text (λ j x. IsKnownEntitiesError X calls levels (entities_said j) x) e → IsUnreadAs e f
       → IsStoreFailure X calls text f
   unread_failure e (failures.Policies errors) h is = absurd is
   unread_failure e (failures.Entities error) h is = (
     is.1,
-    subst (λ (x : JsonError). IsTextError text (λ j y. IsEntitiesError X calls levels (entities_said j) y) x)
+    subst (λ (x : JsonError). IsTextError text (λ j y. IsKnownEntitiesError X calls levels (entities_said j) y) x)
         (sym is.0) h,
   )
   unread_failure e (failures.Parents error) h is = absurd is

@@ -17,7 +17,7 @@ use Rattle.cedar_overlay.specs.declared.entities_error.EntitiesError.TheVariants
 use Rattle.cedar_overlay.specs.Added.{IsAddedTo, HasAncestor, AreAddable, RecordsAll, IsRefusedOf}
 use Rattle.cedar_json_reader.specs.declared.errors.JsonError.{JsonError}
 use Rattle.cedar_json_reader.specs.Evaluated.{AreEntitiesOf}
-use Rattle.cedar_json_reader.specs.FailedEntities.{IsEntitiesError}
+use Rattle.cedar_json_reader.specs.NothingUnknown.{AreKnownEntities, IsKnownEntitiesError}
 use Rattle.cedar_json_reader.specs.JsonTexts.{SaysSo, IsUnread, IsTextError}
 use Rattle.cedar_json_reader.specs.SaidEntities.{entities_said}
 use Rattle.cedar_service.specs.Documents.{IsTextFor}
@@ -48,10 +48,10 @@ IsOver s (e ∷ es) made = HasAdded s (e ∷ es) made
 
 -- ---- what is brought
 
--- the entities that the JSON says; none, where there is none
+-- the entities that the JSON says, in which nothing is unknown; none, where there is none
 abbrev pub AreBrought : world.Extensions → StoredCalls → Option Json → List Entity → Type 0
 AreBrought X calls None es = es ≡ []
-AreBrought X calls (Some j) es = AreEntitiesOf X calls levels (entities_said j) es
+AreBrought X calls (Some j) es = AreEntitiesOf X calls levels (entities_said j) es × AreKnownEntities es
 
 -- the store with them
 abbrev pub IsBroughtOver : world.Extensions → StoredCalls → Entities → Option Json → Entities → Type 0
@@ -79,11 +79,11 @@ pub record IsNotOver (s : Entities) (es : List Entity) (t : Text) : Type 0 where
   pub refused : IsRefusedOf (stored_entity s) es error
   pub told : IsFaultBelow (codes "$.entities") t
 
--- the text says no entities, as the reader's error tells
+-- the text says no entities, or some in which an unknown stands, as the reader's error tells
 pub record AreUnread (X : world.Extensions) (calls : StoredCalls) (text : Text) (t : Text) : Type 0 where
   pub error : JsonError
   pub of_json : IsOfJson error
-  pub refused : IsTextError text (λ j e. IsEntitiesError X calls levels (entities_said j) e) error
+  pub refused : IsTextError text (λ j e. IsKnownEntitiesError X calls levels (entities_said j) e) error
   pub told : IsFaultBelow (codes "$.entities") t
 
 -- it says none, or such as may not be added
@@ -109,4 +109,5 @@ pub data IsUnbroughtBy (X : world.Extensions) (calls : StoredCalls) (s : Entitie
 -- the store with the entities of a text
 abbrev pub IsBroughtAs : world.Extensions → StoredCalls → Entities → Text → Entities → Type 0
 IsBroughtAs X calls s text made =
-    (es : List Entity) × SaysSo text (λ j. AreEntitiesOf X calls levels (entities_said j) es) × IsOver s es made
+    (es : List Entity)
+    × SaysSo text (λ j. AreEntitiesOf X calls levels (entities_said j) es × AreKnownEntities es) × IsOver s es made

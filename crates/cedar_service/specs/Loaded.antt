@@ -27,7 +27,7 @@ both_texts policies entities w = record { policies = policies; entities = entiti
 
 abbrev pub texts_view : rust_texts.Texts → Texts
 texts_view t =
-    both_texts (string_bytes t.policies) (string_bytes t.entities) (ways_of t.request_wins (string_bytes t.action_type))
+    both_texts (string_bytes t.policies) (string_bytes t.entities) (ways_of t.properties (string_bytes t.action_type))
 
 -- what decides
 abbrev pub engine_of : Loaded → Engine

@@ -1,9 +1,10 @@
 -- Properties that an evaluation brings, as attributes beside those that are stored.
-use Rattle.std.specs.Prelude.{◌≡◌, ⊤, Bool, false, [], ◌∷◌, Option, None, Some, Ok, codes}
+use Rattle.std.specs.Prelude.{◌≡◌, ⊤, Bool, true, false, [], ◌∷◌, Option, None, Some, Ok, codes}
+use Rattle.std.specs.Option.{is_some}
 use Rattle.std.specs.BTreeMap.{BTreeMap}
 use Rattle.std.specs.declared.alloc.Global.{Global}
 use Rattle.std.specs.declared.rc.RcStr.{RcStr}
-use Rattle.json.specs.Json.{Json}
+use Rattle.json.specs.Json.{Json, object, no_members}
 use Rattle.cedar_model.specs.Terms.{Text, EntityName}
 use Rattle.cedar_model.specs.World as world
 use Rattle.cedar_model.specs.Rules.{StoredCalls}
@@ -23,7 +24,8 @@ use Rattle.cedar_overlay.specs.Overlaid.{overlaid, AreFree, IsRefused}
 use Rattle.cedar_endpoints.specs.Asked.{Named, Evaluation}
 use Rattle.cedar_service.specs.Levels.{levels}
 use Rattle.cedar_service.specs.Faults.{IsFault, IsFaultBelow}
-use Rattle.cedar_service.specs.Ways.{Ways}
+use Rattle.cedar_service.specs.Ways.{Ways, wins, are_taken}
+use Rattle.cedar_service.specs.declared.ways.RequestProperties.{RequestProperties}
 use Rattle.cedar_service.specs.Asked.{entity_said, action_named, is_known_part, IsUnnamed, IsNoContext}
 
 -- ---- attributes
@@ -88,16 +90,23 @@ pub record AreTaken (wins : Bool) (s : Entities) (n : EntityName) (m : Attribute
 
 -- ---- the properties of a part
 
--- the store with the attributes of the entity of this name that the JSON says
-abbrev pub IsLaidAs : world.Extensions → StoredCalls → Bool → Entities → EntityName → Json → Entities → Type 0
-IsLaidAs X calls wins s n j made = (m : Attributes) × AreAttributesOf X calls j m × IsLaidOver wins s n m made
+-- whether the store has the entity
+abbrev pub is_stored : Entities → EntityName → Bool
+is_stored s n = is_some ((store_view s).entity n)
 
--- it says none, or such as are taken
-pub data IsUnlaid (X : world.Extensions) (calls : StoredCalls) (wins : Bool) (s : Entities) (n : EntityName) (j : Json)
-    (path t : Text) : Type 0 where
-  no_attributes : AreNoAttributes X calls j path t → IsUnlaid X calls wins s n j path t
-  taken : (m : Attributes) → AreAttributesOf X calls j m → AreTaken wins s n m path t
-      → IsUnlaid X calls wins s n j path t
+-- the store with the attributes of the entity of this name that the JSON says, where such are taken of it
+abbrev pub IsLaidAs : world.Extensions → StoredCalls → RequestProperties → Entities → EntityName → Json → Entities → Type 0
+IsLaidAs X calls c s n j made =
+    (m : Attributes) × AreAttributesOf X calls j m × (are_taken c (is_stored s n) ≡ true) × IsLaidOver (wins c) s n m made
+
+-- none are taken of it; or the JSON says none, or such as are stored
+pub data IsUnlaid (X : world.Extensions) (calls : StoredCalls) (c : RequestProperties) (s : Entities) (n : EntityName)
+    (j : Json) (path t : Text) : Type 0 where
+  none_taken : are_taken c (is_stored s n) ≡ false → IsFault path (codes "not taken (--request-properties)") t
+      → IsUnlaid X calls c s n j path t
+  no_attributes : AreNoAttributes X calls j path t → IsUnlaid X calls c s n j path t
+  taken : (m : Attributes) → AreAttributesOf X calls j m → AreTaken (wins c) s n m path t
+      → IsUnlaid X calls c s n j path t
 
 abbrev pub IsNamedAs : Named → EntityName → Type 0
 IsNamedAs q n = entity_said q ≡ Ok n
@@ -105,24 +114,49 @@ IsNamedAs q n = entity_said q ≡ Ok n
 abbrev pub IsActionNamed : Text → Text → EntityName → Type 0
 IsActionNamed ty a n = n ≡ action_named ty a
 
--- the store with the properties of the entity of which this is so; without any it is the store that stands
-abbrev pub IsWithProperties : world.Extensions → StoredCalls → Bool → Entities → (EntityName → Type 0) → Option Json
-    → Entities → Type 0
-IsWithProperties X calls wins s Is None made = made ≡ s
-IsWithProperties X calls wins s Is (Some j) made = (n : EntityName) × Is n × IsLaidAs X calls wins s n j made
+-- whether it is an object without a member
+abbrev pub is_empty : Json → Bool
+is_empty (object no_members) = true
+is_empty other = false
 
-abbrev pub AreWrongProperties : world.Extensions → StoredCalls → Bool → Entities → (EntityName → Type 0) → Option Json
+-- the store with these properties of the entity of which this is so
+abbrev pub AreLaid : world.Extensions → StoredCalls → RequestProperties → Entities → (EntityName → Type 0) → Json
+    → Entities → Type 0
+AreLaid X calls c s Is j made = (n : EntityName) × Is n × IsLaidAs X calls c s n j made
+
+-- properties without a member are none
+abbrev pub AreLaidUnless : Bool → world.Extensions → StoredCalls → RequestProperties → Entities → (EntityName → Type 0)
+    → Json → Entities → Type 0
+AreLaidUnless true X calls c s Is j made = made ≡ s
+AreLaidUnless false X calls c s Is j made = AreLaid X calls c s Is j made
+
+-- the store with the properties of the entity of which this is so; without any it is the store that stands
+abbrev pub IsWithProperties : world.Extensions → StoredCalls → RequestProperties → Entities → (EntityName → Type 0)
+    → Option Json → Entities → Type 0
+IsWithProperties X calls c s Is None made = made ≡ s
+IsWithProperties X calls c s Is (Some j) made = AreLaidUnless (is_empty j) X calls c s Is j made
+
+abbrev pub AreWrong : world.Extensions → StoredCalls → RequestProperties → Entities → (EntityName → Type 0) → Json
     → Text → Text → Type 0
-AreWrongProperties X calls wins s Is None path t = ⊥
-AreWrongProperties X calls wins s Is (Some j) path t = (n : EntityName) × Is n × IsUnlaid X calls wins s n j path t
+AreWrong X calls c s Is j path t = (n : EntityName) × Is n × IsUnlaid X calls c s n j path t
+
+abbrev pub AreWrongUnless : Bool → world.Extensions → StoredCalls → RequestProperties → Entities
+    → (EntityName → Type 0) → Json → Text → Text → Type 0
+AreWrongUnless true X calls c s Is j path t = ⊥
+AreWrongUnless false X calls c s Is j path t = AreWrong X calls c s Is j path t
+
+abbrev pub AreWrongProperties : world.Extensions → StoredCalls → RequestProperties → Entities → (EntityName → Type 0)
+    → Option Json → Text → Text → Type 0
+AreWrongProperties X calls c s Is None path t = ⊥
+AreWrongProperties X calls c s Is (Some j) path t = AreWrongUnless (is_empty j) X calls c s Is j path t
 
 -- the type is no name, or the properties are wrong
-pub data AreWrongOfNamed (X : world.Extensions) (calls : StoredCalls) (wins : Bool) (s : Entities) (q : Named)
-    (type_path : Text) (o : Option Json) (path t : Text) : Type 0 where
+pub data AreWrongOfNamed (X : world.Extensions) (calls : StoredCalls) (c : RequestProperties) (s : Entities)
+    (q : Named) (type_path : Text) (o : Option Json) (path t : Text) : Type 0 where
   no_name : IsUnnamed q → IsFault type_path (codes "not a name") t
-      → AreWrongOfNamed X calls wins s q type_path o path t
-  wrong : AreWrongProperties X calls wins s (IsNamedAs q) o path t
-      → AreWrongOfNamed X calls wins s q type_path o path t
+      → AreWrongOfNamed X calls c s q type_path o path t
+  wrong : AreWrongProperties X calls c s (IsNamedAs q) o path t
+      → AreWrongOfNamed X calls c s q type_path o path t
 
 -- ---- the properties of an evaluation
 
@@ -130,33 +164,33 @@ pub data AreWrongOfNamed (X : world.Extensions) (calls : StoredCalls) (wins : Bo
 pub record IsAskedWithAction (X : world.Extensions) (calls : StoredCalls) (w : Ways) (s : Entities) (q : Evaluation)
     (made : Entities) : Type 0 where
   pub with_action : Entities
-  pub action : IsWithProperties X calls w.request_wins s (IsActionNamed w.action_type q.action) q.properties.action
+  pub action : IsWithProperties X calls w.properties s (IsActionNamed w.action_type q.action) q.properties.action
       with_action
-  pub resource : IsWithProperties X calls w.request_wins with_action (IsNamedAs q.resource) q.properties.resource made
+  pub resource : IsWithProperties X calls w.properties with_action (IsNamedAs q.resource) q.properties.resource made
 
 -- the store with those of the subject, then of the action, then of the resource
 pub record IsAskedOver (X : world.Extensions) (calls : StoredCalls) (w : Ways) (s : Entities) (q : Evaluation)
     (made : Entities) : Type 0 where
   pub with_subject : Entities
-  pub subject : IsWithProperties X calls w.request_wins s (IsNamedAs q.subject) q.properties.subject with_subject
+  pub subject : IsWithProperties X calls w.properties s (IsNamedAs q.subject) q.properties.subject with_subject
   pub others : IsAskedWithAction X calls w with_subject q made
 
 -- ---- why there is none
 
 pub data IsActionUnlaid (X : world.Extensions) (calls : StoredCalls) (w : Ways) (s : Entities) (q : Evaluation)
     (t : Text) : Type 0 where
-  of_action : AreWrongProperties X calls w.request_wins s (IsActionNamed w.action_type q.action) q.properties.action
+  of_action : AreWrongProperties X calls w.properties s (IsActionNamed w.action_type q.action) q.properties.action
       (codes "$.action.properties") t → IsActionUnlaid X calls w s q t
   of_resource : (with_action : Entities)
-      → IsWithProperties X calls w.request_wins s (IsActionNamed w.action_type q.action) q.properties.action with_action
-      → AreWrongOfNamed X calls w.request_wins with_action q.resource (codes "$.resource.type") q.properties.resource
+      → IsWithProperties X calls w.properties s (IsActionNamed w.action_type q.action) q.properties.action with_action
+      → AreWrongOfNamed X calls w.properties with_action q.resource (codes "$.resource.type") q.properties.resource
       (codes "$.resource.properties") t → IsActionUnlaid X calls w s q t
 
 -- the properties of the subject are wrong; or, over the store with them, those of the action or of the resource
 pub data AreUnlaid (X : world.Extensions) (calls : StoredCalls) (w : Ways) (s : Entities) (q : Evaluation) (t : Text)
     : Type 0 where
-  of_subject : AreWrongOfNamed X calls w.request_wins s q.subject (codes "$.subject.type") q.properties.subject
+  of_subject : AreWrongOfNamed X calls w.properties s q.subject (codes "$.subject.type") q.properties.subject
       (codes "$.subject.properties") t → AreUnlaid X calls w s q t
   of_others : (with_subject : Entities)
-      → IsWithProperties X calls w.request_wins s (IsNamedAs q.subject) q.properties.subject with_subject
+      → IsWithProperties X calls w.properties s (IsNamedAs q.subject) q.properties.subject with_subject
       → IsActionUnlaid X calls w with_subject q t → AreUnlaid X calls w s q t

@@ -6,7 +6,7 @@ use Rattle.cedar_model.specs.World as world
 use Rattle.cedar_model.specs.Rules.{StoredCalls}
 use Rattle.cedar_model.specs.Policies as model
 use Rattle.cedar_model.specs.Settings.{is_among}
-use Rattle.cedar_model.specs.Agreement.{HasNothingUnknown, own_world}
+use Rattle.cedar_model.specs.Agreement.{HasNothingUnknown, IsValue, EachStored, own_world}
 use Rattle.cedar_model.specs.Authorizations.{Authorized, IsExactResponse}
 use Rattle.cedar_functions.specs.Functions.{Knowledge}
 use Rattle.cedar_layers.specs.declared.policies.entities.Entities.{Entities}
@@ -18,6 +18,7 @@ use Rattle.cedar_hierarchy.specs.Paths.{Parentage, Leads}
 use Rattle.cedar_hierarchy.specs.declared.error.ClosureError.{ClosureError}
 use Rattle.cedar_hierarchy.specs.declared.error.ClosureError.TheVariants as closing
 use Rattle.cedar_names.specs.Names.{uid_name}
+use Rattle.cedar_requests.specs.Requests.{request_view}
 use Rattle.cedar_requests.specs.declared.request.Request.{Request}
 use Rattle.cedar_standard_functions.specs.Standard.{standard_answers}
 use Rattle.cedar_text_lexer.specs.declared.errors.ReadError.{ReadError}
@@ -31,12 +32,20 @@ use Rattle.cedar_json_reader.specs.declared.errors.JsonError.{JsonError}
 use Rattle.cedar_json_reader.specs.JsonTexts.{SaysSo, IsTextError}
 use Rattle.cedar_json_reader.specs.SaidEntities.{entities_said}
 use Rattle.cedar_json_reader.specs.Evaluated.{AreEntitiesOf}
-use Rattle.cedar_json_reader.specs.FailedEntities.{IsEntitiesError}
+use Rattle.cedar_json_reader.specs.NothingUnknown.{IsKnownEntitiesError}
 use Rattle.cedar_service.specs.declared.engine.Engine.{Engine}
 use Rattle.cedar_service.specs.declared.engine.NotStarted.{NotStarted}
 use Rattle.cedar_service.specs.declared.engine.NotStarted.TheVariants as failures
 use Rattle.cedar_service.specs.Standard.{standard_extensions, standard_calls, standard_knowledge}
-use Rattle.cedar_service.specs.Asked.{levels}
+use Rattle.cedar_service.specs.Asked.{levels, IsAsked, IsSaid, has_known_context}
+use Rattle.cedar_service.specs.Brought.{IsBroughtBy}
+use Rattle.cedar_service.specs.Properties.{IsAskedOver}
+use Rattle.cedar_service.specs.Searched.{opened, question_of}
+use Rattle.cedar_service.specs.Ways.{Ways}
+use Rattle.cedar_service.specs.declared.ways.RequestProperties.TheVariants as claims
+use Rattle.cedar_endpoints.specs.Asked.{Evaluation}
+use Rattle.cedar_search.specs.declared.searches.Part.{Part}
+use Rattle.cedar_search.specs.Found.{HasNothingElseUnknown}
 use Rattle.cedar_service.specs.Faults.{IsOfJson}
 use Rattle.cedar_service.specs.Candidates.{AreCandidates}
 use Rattle.cedar_service.specs.Versions.{version_text}
@@ -51,11 +60,12 @@ pub record IsClosedStore (es : List Entity) (s : Entities) : Type 0 where
   pub whole : (store_view s).is_partial ≡ false
   pub acyclic : (n : EntityName) → ¬ Leads (parents_of es) n n
 
--- the closed store of the entities that the JSON says
+-- the closed store of the entities that the JSON says, in which nothing is unknown
 pub record IsStoreSaid (X : world.Extensions) (calls : StoredCalls) (text : Text) (s : Entities) : Type 0 where
   pub entities : List Entity
   pub said : SaysSo text (λ j. AreEntitiesOf X calls levels (entities_said j) entities)
   pub closed : IsClosedStore entities s
+  pub known : EachStored IsValue (store_view s)
 
 -- with these extensions, of which so much is known where policies are read
 pub record IsEngineWith (k : Knowledge) (X : world.Extensions) (calls : StoredCalls) (policies entities : Text)
@@ -69,24 +79,55 @@ pub record IsEngineWith (k : Knowledge) (X : world.Extensions) (calls : StoredCa
   pub candidates_are : AreCandidates (policies_of e) (entities_of e) (candidates_of e)
   pub version_is : version_of e ≡ version_text policies entities
 
--- where nothing is unknown: decision, reasons and errors are exactly those that the policies have by what they mean
+-- decision, reasons and errors are exactly those that the policies have by what they mean
 abbrev pub IsExact : PolicySet → Entities → Request → Authorized → Type 0
 IsExact ps s r a =
-    HasNothingUnknown (setting_of standard_extensions r s) → (sigma : Text → AbstractValue)
+    (sigma : Text → AbstractValue)
     → IsExactResponse model.skip standard_extensions standard_answers
     (own_world (setting_of standard_extensions r s) sigma) (considered ps) a
 
--- each response is exact, over any store
+-- a store over which the engine decides: its own, with the properties of an evaluation or the entities of a text
+pub data IsStoreFor (e : Engine) (s : Entities) : Type 0 where
+  with_properties : (w : Ways) (q : Evaluation)
+      → IsAskedOver standard_extensions standard_calls w (entities_of e) q s → IsStoreFor e s
+  with_entities : (text : Text) → IsBroughtBy standard_extensions standard_calls (entities_of e) text s → IsStoreFor e s
+
+-- a request that it decides: that of an evaluation, or the one that a text says
+pub data IsRequestFor (r : Request) : Type 0 where
+  of_evaluation : (ty : Text) (q : Evaluation) → IsAsked standard_extensions standard_calls ty q r → IsRequestFor r
+  of_text : (text : Text) → IsSaid standard_extensions standard_calls text r → IsRequestFor r
+
+-- a response, in which nothing is unknown, and which is exact
+pub record IsExactOver (e : Engine) (s : Entities) (r : Request) (a : Authorized) : Type 0 where
+  pub nothing_unknown : HasNothingUnknown (setting_of standard_extensions r s)
+  pub exact : IsExact (policies_of e) s r a
+
+-- so is each response to a request that is answered: one whose context is known
 abbrev pub AnswersExactly : Engine → Type 0
 AnswersExactly e =
-    (s : Entities) (r : Request) (a : Authorized)
+    (s : Entities) (r : Request) (a : Authorized) → IsStoreFor e s → IsRequestFor r → has_known_context r ≡ true
     → IsResponseTo standard_extensions standard_calls (policies_of e) s r a
-    → IsExact (policies_of e) s r a
+    → IsExactOver e s r a
+
+-- and where a part of such a request is searched for, nothing but that part is unknown
+abbrev pub SearchesTheKnown : Engine → Type 0
+SearchesTheKnown e =
+    (s : Entities) (r : Request) (part : Part) → IsStoreFor e s → IsRequestFor r → has_known_context r ≡ true
+    → HasNothingElseUnknown
+    (question_of standard_extensions standard_calls e s part (opened part (request_view r)))
+
+-- where properties are taken of no entity, an evaluation is decided over the engine's own store
+abbrev pub LeavesUntouched : Engine → Type 0
+LeavesUntouched e =
+    (w : Ways) (q : Evaluation) (s : Entities) → w.properties ≡ claims.None
+    → IsAskedOver standard_extensions standard_calls w (entities_of e) q s → s ≡ entities_of e
 
 -- the engine of two texts, with the standard extensions: it has what they say, and each response of it is exact
 pub record IsEngineOf (policies entities : Text) (e : Engine) : Type 0 where
   pub has : IsEngineWith standard_knowledge standard_extensions standard_calls policies entities e
   pub exact : AnswersExactly e
+  pub searches : SearchesTheKnown e
+  pub untouched : LeavesUntouched e
 
 -- ---- why none is made
 
@@ -105,7 +146,7 @@ pub record IsCyclic (X : world.Extensions) (calls : StoredCalls) (text : Text) (
 abbrev pub IsStoreFailure : world.Extensions → StoredCalls → Text → NotStarted → Type 0
 IsStoreFailure X calls text (failures.Policies errors) = ⊥
 IsStoreFailure X calls text (failures.Entities error) =
-    IsOfJson error × IsTextError text (λ j e. IsEntitiesError X calls levels (entities_said j) e) error
+    IsOfJson error × IsTextError text (λ j e. IsKnownEntitiesError X calls levels (entities_said j) e) error
 IsStoreFailure X calls text (failures.Parents error) = IsCyclic X calls text error
 IsStoreFailure X calls text failures.Memory = ⊤
 

@@ -4,7 +4,7 @@ ghost use Rattle.json.specs.Find.{get};
 ghost use Rattle.json.specs.Value.{value_view};
 ghost use Rattle.cedar_extensions.specs.Extensions.{extensions_view, calls_of};
 ghost use Rattle.cedar_layers.specs.Stores.{stored_entity};
-ghost use Rattle.cedar_json_reader.specs.FailedEntities.{IsEntitiesError};
+ghost use Rattle.cedar_json_reader.specs.NothingUnknown.{IsKnownEntitiesError};
 ghost use Rattle.cedar_json_reader.specs.JsonTexts.{IsTextError};
 ghost use Rattle.cedar_json_reader.specs.SaidEntities.{entities_said};
 ghost use Rattle.cedar_overlay.specs.Bases.{base_entities};
@@ -19,7 +19,7 @@ use crate::documents::{parse_json, text_of};
 use crate::faults::{Refusal, refuse_at_index, refuse_below, refuse_json};
 use cedar_extensions::Extensions;
 use cedar_json_reader::{
-    JsonError, StatedEntity, entities_from_json_str, stated_entities_from_json_str,
+    JsonError, StatedEntity, known_entities_from_json_str, stated_entities_from_json_str,
 };
 use cedar_layers::policies::{Entities, Entity};
 use cedar_names::EntityUID;
@@ -31,7 +31,7 @@ use std::alloc::{AllocError, Global};
 const ENTITIES: &str = "$.entities";
 
 /// The store with the entities that the text brings, if it brings some: a request, at its member `entities`. Refuses
-/// what says no entities, and entities that may not be added.
+/// what says no entities, entities in which an unknown stands, and entities that may not be added.
 pub(crate) fn brought_by(
     alloc: Global,
     base: &Base,
@@ -108,7 +108,7 @@ fn over_text(
     ensures refused { IfErr result (IsToldAs (IsUnbroughtAs (extensions_view extensions.now) (calls_of extensions.now)
         (base_entities base.now) text.now)) }
 {
-    match entities_from_json_str(alloc, text, extensions, LEVELS) {
+    match known_entities_from_json_str(alloc, text, extensions, LEVELS) {
         Ok(entities) => over_entities(alloc, base, text, entities),
         Err(error) => {
             let refusal = refuse_json(alloc, ENTITIES, &error);

@@ -10,7 +10,7 @@ use crate::versions::version_of;
 use cedar_extensions::Extensions;
 use cedar_functions::Functions;
 use cedar_hierarchy::{ClosureError, close_hierarchy};
-use cedar_json_reader::{JsonError, entities_from_json_str};
+use cedar_json_reader::{JsonError, known_entities_from_json_str};
 use cedar_layers::policies::{Entities, Entity, PolicySet};
 use cedar_names::{EntityUID, FirstRest};
 use cedar_overlay::Base;
@@ -35,7 +35,7 @@ pub struct Engine {
 pub enum NotStarted {
     /// The policies can't be read: these are the errors, each with its place in the text.
     Policies(FirstRest<ParseError>),
-    /// The entities can't be read, or an attribute or a tag does not evaluate.
+    /// The entities can't be read, or an attribute or a tag does not evaluate, or an unknown stands in one.
     Entities(JsonError),
     /// The parents of an entity lead back to it.
     Parents(ClosureError),
@@ -272,7 +272,7 @@ fn read_store(
     ensures refused { IfErr result
         (IsStoreFailure (extensions_view extensions.now) (calls_of extensions.now) text.now) }
 {
-    match entities_from_json_str(alloc, text, extensions, LEVELS) {
+    match known_entities_from_json_str(alloc, text, extensions, LEVELS) {
         Ok(entities) => close(alloc, entities),
         Err(error) => Err(unread(error)),
     }

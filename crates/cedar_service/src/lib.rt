@@ -47,4 +47,4 @@ pub use engine::{Engine, NotStarted};
 pub use loaded::Loaded;
 pub use reasons::policies_reason;
 pub use serving::serve_decisions;
-pub use ways::Ways;
+pub use ways::{RequestProperties, Ways};

@@ -9,7 +9,7 @@ ghost use Rattle.cedar_service.specs.Ways.{ways_view};
 use crate::engine::{Engine, NotStarted};
 use crate::faults::{Refusal, refuse_below, refuse_json};
 use crate::reasons::policies_reason;
-use crate::ways::Ways;
+use crate::ways::{RequestProperties, Ways};
 use cedar_endpoints::{NotRemade, Replaced};
 use cedar_hierarchy::ClosureError;
 use cedar_names::FirstRest;
@@ -23,8 +23,8 @@ pub(crate) struct Texts {
     pub(crate) policies: String,
     // The entities, in Cedar's JSON.
     pub(crate) entities: String,
-    // Whether the attributes of a request stand instead of those that are stored.
-    pub(crate) request_wins: bool,
+    // Of which entities the properties of an evaluation are taken.
+    pub(crate) properties: RequestProperties,
     // The type of the actions.
     pub(crate) action_type: String,
 }
@@ -41,9 +41,8 @@ impl Loaded {
     ghost use Rattle.cedar_service.specs.Started.{IsNotStarted};
 
     /// The engine of the policies that the first text writes, in Cedar's text, over the entities that the second one
-    /// says, in Cedar's JSON, with copies of both. Where an evaluation has a property of the name of an attribute that is
-    /// stored, it is refused, unless the request wins: then its property stands instead. Refuses as `Engine::of_texts`
-    /// does.
+    /// says, in Cedar's JSON, with copies of both. Evaluations are taken in these ways, which say of which entities they
+    /// may have properties. Refuses as `Engine::of_texts` does.
     pub fn of_texts(
         alloc: Global,
         policies: &str,
@@ -74,7 +73,7 @@ pub(crate) fn ways_of(texts: &Texts) -> Ways<'_>
     ensures { ways_view result ≡ (texts_view texts.now).ways }
 {
     Ways {
-        request_wins: texts.request_wins,
+        properties: texts.properties,
         action_type: texts.action_type.as_str(),
     }
 }
@@ -112,7 +111,7 @@ fn copied(
     Ok(Texts {
         policies,
         entities,
-        request_wins: ways.request_wins,
+        properties: ways.properties,
         action_type,
     })
 }

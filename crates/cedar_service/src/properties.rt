@@ -1,5 +1,5 @@
 //! Properties that an evaluation brings, as attributes beside those that are stored.
-ghost use Rattle.std.specs.Prelude.{◌≡◌, ◌∷◌, [], Bool, true, Some, None, IfOk, IfErr, codes, option_map, is_some};
+ghost use Rattle.std.specs.Prelude.{◌≡◌, ◌∷◌, [], Bool, true, false, Some, None, IfOk, IfErr, codes, option_map, is_some};
 ghost use Rattle.json.specs.Value.{value_view};
 ghost use Rattle.cedar_model.specs.Settings.{known_context};
 ghost use Rattle.cedar_extensions.specs.Extensions.{extensions_view, calls_of};
@@ -13,13 +13,14 @@ ghost use Rattle.cedar_service.specs.Faults.{IsFaultBelow, IsToldAs};
 ghost use Rattle.cedar_service.specs.Properties.{AreAttributesOf, IsLaidOver, IsLaidAs, IsUnlaid, IsAskedOver, AreUnlaid};
 ghost use Rattle.cedar_service.specs.Properties.{IsNamedAs, IsActionNamed, IsWithProperties, AreWrongProperties};
 ghost use Rattle.cedar_service.specs.Properties.{AreWrongOfNamed, IsAskedWithAction, IsActionUnlaid, AreNoAttributes};
-ghost use Rattle.cedar_service.specs.Ways.{ways_view};
+ghost use Rattle.cedar_service.specs.Properties.{is_empty, AreLaid, AreWrong, is_stored};
+ghost use Rattle.cedar_service.specs.Ways.{ways_view, are_taken};
 ghost use Rattle.cedar_service.specs.Properties.{IsNotKnown, AreTaken, IsOfAttributes, HasOneMore};
 
 use crate::contexts::context_in;
 use crate::faults::{Refusal, refuse, refuse_at_key, refuse_below};
 use crate::names::{action_of, entity_of};
-use crate::ways::Ways;
+use crate::ways::{RequestProperties, Ways};
 use cedar_endpoints::{Evaluation, Named};
 use cedar_extensions::Extensions;
 use cedar_fallible::add_last;
@@ -38,8 +39,9 @@ type Attributes = BTreeMap<RcStr, CedarValue>;
 
 /// The store with the properties of the evaluation, if it has some: those of the subject, then those of the action,
 /// then those of the resource, each as attributes of its entity. An entity that is not stored is added with these
-/// alone. Refuses the first of these: properties that are no record of known values, and, unless the request wins, one
-/// of the name of an attribute that the entity has.
+/// alone. Properties without a member are none. Refuses the first of these: properties of an entity of which none are
+/// taken, such as are no record of known values, and, unless they win, one of the name of an attribute that the entity
+/// has.
 pub(crate) fn laid_over(
     alloc: Global,
     stored: &Entities,
@@ -60,7 +62,7 @@ pub(crate) fn laid_over(
         "$.subject.type",
         question.properties.subject,
         "$.subject.properties",
-        ways.request_wins,
+        ways.properties,
         extensions,
     ) {
         Ok(laid) => with_action(alloc, stored, laid, question, ways, extensions),
@@ -99,7 +101,7 @@ fn with_action(
             "$.resource.type",
             question.properties.resource,
             "$.resource.properties",
-            ways.request_wins,
+            ways.properties,
             extensions,
         ),
         Err(refusal) => Err(refusal),
@@ -118,18 +120,36 @@ fn with_properties_of_action(
     extensions: &Extensions<'_>,
 ) -> Result<Option<Entities>, Refusal>
     ensures laid { IfOk result (λ o. IsWithProperties (extensions_view extensions.now) (calls_of extensions.now)
-        ways.entry.request_wins (laid_or stored.now laid) (IsActionNamed ways.entry.action_type.now name.now)
+        ways.entry.properties (laid_or stored.now laid) (IsActionNamed ways.entry.action_type.now name.now)
         (option_map (λ v. value_view v.now) given.entry)
         (laid_or stored.now o)) }
     ensures refused { IfErr result (IsToldAs (AreWrongProperties (extensions_view extensions.now)
-        (calls_of extensions.now) ways.entry.request_wins (laid_or stored.now laid)
+        (calls_of extensions.now) ways.entry.properties (laid_or stored.now laid)
         (IsActionNamed ways.entry.action_type.now name.now)
         (option_map (λ v. value_view v.now) given.entry)
         (codes "$.action.properties"))) }
 {
     match given {
-        Some(given) => lay_action(alloc, stored, laid, name, given, ways, extensions),
+        Some(given) => if is_empty(given) {
+            Ok(laid)
+        } else {
+            lay_action(alloc, stored, laid, name, given, ways, extensions)
+        },
         None => Ok(laid),
+    }
+}
+
+// Whether it is an object without a member.
+fn is_empty(value: &Value<'_>) -> bool
+    ensures { result ≡ is_empty (value_view value.now) }
+{
+    match value {
+        Value::Null => false,
+        Value::Bool(_) => false,
+        Value::Number(_) => false,
+        Value::String(_) => false,
+        Value::Array(_) => false,
+        Value::Object(members) => members.as_slice().is_empty(),
     }
 }
 
@@ -142,12 +162,12 @@ fn lay_action(
     ways: Ways<'_>,
     extensions: &Extensions<'_>,
 ) -> Result<Option<Entities>, Refusal>
-    ensures laid { IfOk result (λ o. IsWithProperties (extensions_view extensions.now) (calls_of extensions.now)
-        ways.entry.request_wins (laid_or stored.now laid) (IsActionNamed ways.entry.action_type.now name.now)
-        (Some (value_view given.now)) (laid_or stored.now o)) }
-    ensures refused { IfErr result (IsToldAs (AreWrongProperties (extensions_view extensions.now)
-        (calls_of extensions.now) ways.entry.request_wins (laid_or stored.now laid)
-        (IsActionNamed ways.entry.action_type.now name.now) (Some (value_view given.now))
+    ensures laid { IfOk result (λ o. AreLaid (extensions_view extensions.now) (calls_of extensions.now)
+        ways.entry.properties (laid_or stored.now laid) (IsActionNamed ways.entry.action_type.now name.now)
+        (value_view given.now) (laid_or stored.now o)) }
+    ensures refused { IfErr result (IsToldAs (AreWrong (extensions_view extensions.now)
+        (calls_of extensions.now) ways.entry.properties (laid_or stored.now laid)
+        (IsActionNamed ways.entry.action_type.now name.now) (value_view given.now)
         (codes "$.action.properties"))) }
 {
     match action_of(alloc, ways.action_type, name) {
@@ -158,7 +178,7 @@ fn lay_action(
             uid,
             given,
             "$.action.properties",
-            ways.request_wins,
+            ways.properties,
             extensions,
         ),
         Err(AllocError) => {
@@ -177,28 +197,24 @@ fn with_named(
     type_path: &str,
     given: Option<&Value<'_>>,
     path: &str,
-    request_wins: bool,
+    claims: RequestProperties,
     extensions: &Extensions<'_>,
 ) -> Result<Option<Entities>, Refusal>
     ensures laid { IfOk result (λ o. IsWithProperties (extensions_view extensions.now) (calls_of extensions.now)
-        request_wins (laid_or stored.now laid) (IsNamedAs (named_view named.entry))
+        claims (laid_or stored.now laid) (IsNamedAs (named_view named.entry))
         (option_map (λ v. value_view v.now) given.entry) (laid_or stored.now o)) }
     ensures refused { IfErr result (IsToldAs (AreWrongOfNamed (extensions_view extensions.now) (calls_of extensions.now)
-        request_wins (laid_or stored.now laid) (named_view named.entry) type_path.now
+        claims (laid_or stored.now laid) (named_view named.entry) type_path.now
         (option_map (λ v. value_view v.now) given.entry) path.now)) }
 {
     match given {
-        Some(given) => lay_named(
-            alloc,
-            stored,
-            laid,
-            named,
-            type_path,
-            given,
-            path,
-            request_wins,
-            extensions,
-        ),
+        Some(given) => if is_empty(given) {
+            Ok(laid)
+        } else {
+            lay_named(
+                alloc, stored, laid, named, type_path, given, path, claims, extensions,
+            )
+        },
         None => Ok(laid),
     }
 }
@@ -211,27 +227,19 @@ fn lay_named(
     type_path: &str,
     given: &Value<'_>,
     path: &str,
-    request_wins: bool,
+    claims: RequestProperties,
     extensions: &Extensions<'_>,
 ) -> Result<Option<Entities>, Refusal>
-    ensures laid { IfOk result (λ o. IsWithProperties (extensions_view extensions.now) (calls_of extensions.now)
-        request_wins (laid_or stored.now laid) (IsNamedAs (named_view named.entry)) (Some (value_view given.now))
+    requires { is_empty (value_view given.now) ≡ false }
+    ensures laid { IfOk result (λ o. AreLaid (extensions_view extensions.now) (calls_of extensions.now)
+        claims (laid_or stored.now laid) (IsNamedAs (named_view named.entry)) (value_view given.now)
         (laid_or stored.now o)) }
     ensures refused { IfErr result (IsToldAs (AreWrongOfNamed (extensions_view extensions.now) (calls_of extensions.now)
-        request_wins (laid_or stored.now laid) (named_view named.entry) type_path.now (Some (value_view given.now))
+        claims (laid_or stored.now laid) (named_view named.entry) type_path.now (Some (value_view given.now))
         path.now)) }
 {
     match entity_of(alloc, named, type_path) {
-        Ok(uid) => lay_over(
-            alloc,
-            stored,
-            laid,
-            uid,
-            given,
-            path,
-            request_wins,
-            extensions,
-        ),
+        Ok(uid) => lay_over(alloc, stored, laid, uid, given, path, claims, extensions),
         Err(refusal) => {
             drop(laid);
             Err(refusal)
@@ -249,13 +257,13 @@ fn lay_over(
     uid: EntityUID,
     given: &Value<'_>,
     path: &str,
-    request_wins: bool,
+    claims: RequestProperties,
     extensions: &Extensions<'_>,
 ) -> Result<Option<Entities>, Refusal>
     ensures laid { IfOk result (λ o. IsLaidAs (extensions_view extensions.now) (calls_of extensions.now)
-        request_wins (laid_or stored.now laid) (uid_name uid) (value_view given.now) (laid_or stored.now o)) }
+        claims (laid_or stored.now laid) (uid_name uid) (value_view given.now) (laid_or stored.now o)) }
     ensures refused { IfErr result (IsToldAs (IsUnlaid (extensions_view extensions.now) (calls_of extensions.now)
-        request_wins (laid_or stored.now laid) (uid_name uid) (value_view given.now) path.now)) }
+        claims (laid_or stored.now laid) (uid_name uid) (value_view given.now) path.now)) }
 {
     let made = lay(
         alloc,
@@ -263,7 +271,7 @@ fn lay_over(
         uid,
         given,
         path,
-        request_wins,
+        claims,
         extensions,
     );
     drop(laid);
@@ -289,20 +297,55 @@ fn lay(
     uid: EntityUID,
     given: &Value<'_>,
     path: &str,
-    request_wins: bool,
+    claims: RequestProperties,
     extensions: &Extensions<'_>,
 ) -> Result<Entities, Refusal>
     ensures laid { IfOk result (IsLaidAs (extensions_view extensions.now) (calls_of extensions.now)
-        request_wins store.now (uid_name uid) (value_view given.now)) }
+        claims store.now (uid_name uid) (value_view given.now)) }
     ensures refused { IfErr result (IsToldAs (IsUnlaid (extensions_view extensions.now) (calls_of extensions.now)
-        request_wins store.now (uid_name uid) (value_view given.now) path.now)) }
+        claims store.now (uid_name uid) (value_view given.now) path.now)) }
+{
+    if is_taken(claims, store, &uid) {
+        lay_taken(alloc, store, uid, given, path, claims, extensions)
+    } else {
+        drop(uid);
+        Err(refuse(alloc, path, "not taken (--request-properties)"))
+    }
+}
+
+fn lay_taken(
+    alloc: Global,
+    store: &Entities,
+    uid: EntityUID,
+    given: &Value<'_>,
+    path: &str,
+    claims: RequestProperties,
+    extensions: &Extensions<'_>,
+) -> Result<Entities, Refusal>
+    requires { are_taken claims (is_stored store.now (uid_name uid)) ≡ true }
+    ensures laid { IfOk result (IsLaidAs (extensions_view extensions.now) (calls_of extensions.now)
+        claims store.now (uid_name uid) (value_view given.now)) }
+    ensures refused { IfErr result (IsToldAs (IsUnlaid (extensions_view extensions.now) (calls_of extensions.now)
+        claims store.now (uid_name uid) (value_view given.now) path.now)) }
 {
     match attributes_of(alloc, given, path, extensions) {
-        Ok(attributes) => put(alloc, store, uid, attributes, path, request_wins),
+        Ok(attributes) => put(alloc, store, uid, attributes, path, claims.wins()),
         Err(refusal) => {
             drop(uid);
             Err(refusal)
         }
+    }
+}
+
+// Whether properties are taken of this entity.
+fn is_taken(claims: RequestProperties, store: &Entities, uid: &EntityUID) -> bool
+    ensures { result ≡ are_taken claims (is_stored store.now (uid_name uid.now)) }
+{
+    match claims {
+        RequestProperties::None => false,
+        RequestProperties::Unstored => !is_stored(store, uid),
+        RequestProperties::Beside => true,
+        RequestProperties::Win => true,
     }
 }
 
@@ -378,7 +421,7 @@ fn put(
 }
 
 fn is_stored(store: &Entities, uid: &EntityUID) -> bool
-    ensures { result ≡ is_some ((store_view store.now).entity (uid_name uid.now)) }
+    ensures { result ≡ is_stored store.now (uid_name uid.now) }
 {
     match store.get(uid) {
         Some(_) => true,

@@ -1,10 +1,40 @@
 //! How evaluations are taken.
 
+/// Of which entities an evaluation's properties are taken, as attributes. Properties without a member are none.
+#[derive(Clone, Copy)]
+pub enum RequestProperties {
+    /// Of none.
+    None,
+    /// Of entities that are not stored.
+    Unstored,
+    /// Of all; those of a stored entity stand beside its own, and one of the name of a stored attribute is refused.
+    Beside,
+    /// Of all; they stand instead of stored attributes of their names.
+    Win,
+}
+
+impl RequestProperties {
+    ghost use Rattle.std.specs.Prelude.{◌≡◌};
+    ghost use Rattle.cedar_service.specs.Ways.{wins};
+
+    /// Whether they stand instead of stored attributes of their names.
+    pub(crate) fn wins(self) -> bool
+        ensures { result ≡ wins self }
+    {
+        match self {
+            RequestProperties::None => false,
+            RequestProperties::Unstored => false,
+            RequestProperties::Beside => false,
+            RequestProperties::Win => true,
+        }
+    }
+}
+
 /// How evaluations are taken: what they say beside their names, and what their names stand for.
 #[derive(Clone, Copy)]
 pub struct Ways<'t> {
-    /// Whether the attributes of a request stand instead of those that are stored.
-    pub request_wins: bool,
+    /// Of which entities properties are taken.
+    pub properties: RequestProperties,
     /// The type of the actions, which an evaluation names by their ids alone: a name, as `Action`.
     pub action_type: &'t str,
 }

@@ -7,7 +7,7 @@ use Rattle.cedar_standard_functions.specs.Standard.{standard_answers}
 use Rattle.cedar_cli.specs.Authorized.{IsAnsweredOver, IsAuthorized}
 use Rattle.cedar_cli.specs.Batch.{in_json, asking, AreAnswered, AreAnsweredBy, AreAuthorized, AreUnauthorized, unread_entities}
 use Rattle.cedar_cli.specs.Questions.{levels}
-use Rattle.cedar_cli.specs.Reasons.{IsToldFor, IsStoreUnread, IsRequestUnread}
+use Rattle.cedar_cli.specs.Reasons.{IsToldFor, IsKnownStoreUnread, IsRequestUnread}
 use Rattle.cedar_cli.specs.Standard.{standard_extensions, standard_calls, standard_knowledge}
 use Rattle.cedar_cli.proofs.Alone.{calls_alone, view_alone, known_alone}
 use Rattle.cedar_cli.proofs.Batching.{answered_of, authorized_alone}
@@ -58,10 +58,10 @@ returns-clause-refused c =
     let there = c.all_available-extensions.ensures.standard in
     let q = c.args.asked.now in
     let text = c.args.policies.text.now in
-    of_err (IsToldFor (IsStoreUnread (extensions_view x) (calls_of x) q.entities q.max_ancestors))
+    of_err (IsToldFor (IsKnownStoreUnread (extensions_view x) (calls_of x) q.entities q.max_ancestors))
     (IsToldFor (AreUnauthorized text q))
-    (λ r. because (IsStoreUnread (extensions_view x) (calls_of x) q.entities q.max_ancestors) (AreUnauthorized text q)
+    (λ r. because (IsKnownStoreUnread (extensions_view x) (calls_of x) q.entities q.max_ancestors) (AreUnauthorized text q)
     (λ h. unread_entities
-    (subst (λ calls. IsStoreUnread standard_extensions calls q.entities q.max_ancestors) (calls_alone x none there)
-    (subst (λ v. IsStoreUnread v (calls_of x) q.entities q.max_ancestors) (view_alone x none there) h))) r)
+    (subst (λ calls. IsKnownStoreUnread standard_extensions calls q.entities q.max_ancestors) (calls_alone x none there)
+    (subst (λ v. IsKnownStoreUnread v (calls_of x) q.entities q.max_ancestors) (view_alone x none there) h))) r)
     c.answer_parsed-printed.result c.answer_parsed-printed.ensures.refused

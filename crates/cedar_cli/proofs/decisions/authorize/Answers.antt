@@ -12,7 +12,7 @@ use Rattle.cedar_cli.proofs.Alone.{calls_alone, view_alone, known_alone}
 use Rattle.cedar_cli.specs.Reasons.{IsToldFor, IsAskedUnread, IsUnauthorized, for_question}
 use Rattle.cedar_cli.proofs.Composed.{of_ok, of_err}
 use Rattle.cedar_cli.proofs.Reasoned.{because}
-use Rattle.cedar_cli.proofs.Exact.{exactly}
+use Rattle.cedar_cli.proofs.Exact.{exactly, none_unknown}
 use Rattle.cedar_cli.proofs.Words.{allowed_exactly}
 use Rattle.cedar_cli.proofs.decisions.authorize.Goals as goal
 
@@ -36,8 +36,9 @@ returns-clause-answered c =
     let by = subst (λ calls. IsAnsweredBy standard_extensions calls text parsed.policies q w p) (calls_alone x none there)
     viewed in
     let response = by.answered.response in
+    let nothing = none_unknown standard_extensions standard_calls q by.entities by.answered.request by.store_is by.answered.request_is in
     let exact = exactly c.known_calls_of_policies.ensures.policies c.functions_are_computed.ensures.nothing_asked agree standard_knowledge text parsed read
-    c.in_ok-parsed.ensures.low by.entities by.answered.request w (response_view response) by.answered.response_is in
+    c.in_ok-parsed.ensures.low by.entities by.answered.request w (response_view response) by.answered.response_is nothing in
     record {
       parsed = parsed;
       entities = by.entities;
@@ -46,6 +47,7 @@ returns-clause-answered c =
       policies_are = read;
       store_is = by.store_is;
       request_is = by.answered.request_is;
+      nothing_unknown = nothing;
       response_is = by.answered.response_is;
       exact = exact;
       printed = by.answered.printed;

@@ -13,7 +13,7 @@ use Rattle.cedar_cli.specs.Reasons.{IsToldFor, IsAskedUnread, IsUnauthorized, fo
 use Rattle.cedar_cli.proofs.Alone.{calls_alone, view_alone, known_alone}
 use Rattle.cedar_cli.proofs.Composed.{of_ok, of_err}
 use Rattle.cedar_cli.proofs.Reasoned.{because}
-use Rattle.cedar_cli.proofs.Exact.{exactly}
+use Rattle.cedar_cli.proofs.Exact.{exactly, none_unknown}
 use Rattle.cedar_cli.proofs.Explaining.{allowed_above}
 use Rattle.cedar_cli.proofs.explanations.authorize_and_explain.Goals as goal
 
@@ -38,12 +38,14 @@ returns-clause-answered c =
     let by : IsExplainedBy standard_extensions standard_calls text parsed.policies q w b p =
     subst (λ calls. IsExplainedBy standard_extensions calls text parsed.policies q w b p) (calls_alone x none there) viewed in
     let response = by.over.response in
+    let nothing = none_unknown standard_extensions standard_calls q by.entities by.over.request by.store_is by.over.request_is in
     let exact = exactly c.known_calls_of_policies.ensures.policies c.functions_are_computed.ensures.nothing_asked agree standard_knowledge text parsed read
-    c.in_ok-parsed.ensures.low by.entities by.over.request w (response_view response) by.over.response_is in
+    c.in_ok-parsed.ensures.low by.entities by.over.request w (response_view response) by.over.response_is nothing in
     record {
       parsed = parsed;
       policies_are = read;
       by = by;
+      nothing_unknown = nothing;
       exact = exact;
       allows = λ unlimited. allowed_above (mode_view w.error_handling) parsed.policies by.entities by.over.request response
           w.is_verbose (policies_view parsed.policies) by.over.below p (exact unlimited) by.over.printed;

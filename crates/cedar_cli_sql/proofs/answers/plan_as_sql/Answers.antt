@@ -14,7 +14,7 @@ returns-clause-answered g c =
     let q = c.args.asked.now in
     of_ok (IsPlannedWith k (extensions_view x) (calls_of x) text q table c.args.way c.args.is_candidates)
     (IsPlanned k (extensions_view x) (calls_of x) text q c.args.columns.text.now c.args.way c.args.is_candidates)
-    (λ p h. record { table = table; table_is = c.in_ok-table.ensures.said; planned = h })
+    (λ p h. record { partial = c.in_ok-refuse_whole.ensures.partial; table = table; table_is = c.in_ok-table.ensures.said; planned = h })
     c.plan_with_table-printed.result c.plan_with_table-printed.ensures.answered
 
 pub returns-clause-refused : goal.returns-clause-refused

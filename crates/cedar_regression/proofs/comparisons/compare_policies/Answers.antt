@@ -5,7 +5,7 @@ use Rattle.cedar_text_parser.specs.PolicyReading.{AreAllRead}
 use Rattle.cedar_standard_functions.specs.Standard.{standard_answers}
 use Rattle.cedar_cli.specs.Batch.{asking}
 use Rattle.cedar_cli.specs.Questions.{levels}
-use Rattle.cedar_cli.specs.Reasons.{IsToldFor, IsStoreUnread, IsRequestUnread, ArePoliciesUnread}
+use Rattle.cedar_cli.specs.Reasons.{IsToldFor, IsKnownStoreUnread, IsRequestUnread, ArePoliciesUnread}
 use Rattle.cedar_cli.specs.Standard.{standard_extensions, standard_calls, standard_knowledge}
 use Rattle.cedar_cli.proofs.Alone.{calls_alone, view_alone, known_alone}
 use Rattle.cedar_cli.proofs.Composed.{of_ok, of_err}
@@ -67,10 +67,10 @@ returns-clause-refused c =
     let q = c.args.asked.now in
     let old = c.args.old.text.now in
     let new = c.args.new.text.now in
-    of_err (IsToldFor (IsStoreUnread (extensions_view x) (calls_of x) q.entities q.max_ancestors))
+    of_err (IsToldFor (IsKnownStoreUnread (extensions_view x) (calls_of x) q.entities q.max_ancestors))
     (IsToldFor (AreUncompared old new q))
-    (λ r. because (IsStoreUnread (extensions_view x) (calls_of x) q.entities q.max_ancestors) (AreUncompared old new q)
+    (λ r. because (IsKnownStoreUnread (extensions_view x) (calls_of x) q.entities q.max_ancestors) (AreUncompared old new q)
     (λ h. entities_unread
-    (subst (λ calls. IsStoreUnread standard_extensions calls q.entities q.max_ancestors) (calls_alone x none there)
-    (subst (λ v. IsStoreUnread v (calls_of x) q.entities q.max_ancestors) (view_alone x none there) h))) r)
+    (subst (λ calls. IsKnownStoreUnread standard_extensions calls q.entities q.max_ancestors) (calls_alone x none there)
+    (subst (λ v. IsKnownStoreUnread v (calls_of x) q.entities q.max_ancestors) (view_alone x none there) h))) r)
     c.compare_read-printed.result c.compare_read-printed.ensures.refused

@@ -7,7 +7,9 @@ use Rattle.cedar_service.specs.Standard.{standard_extensions, standard_calls, st
 use Rattle.cedar_service.specs.Started.{IsEngineWith, IsEngineOf, IsFailure, IsNotStarted}
 use Rattle.cedar_service.proofs.Alone.{calls_alone, view_alone, known_alone}
 use Rattle.cedar_service.proofs.Composed.{of_ok, of_err}
-use Rattle.cedar_service.proofs.Exact.{exactly}
+use Rattle.cedar_service.specs.Engines.{entities_of}
+use Rattle.cedar_service.proofs.Exact.{exactly, searched}
+use Rattle.cedar_service.proofs.KnownStores.{asked_untouched}
 use Rattle.cedar_service.proofs.engine.Engine.of_texts.Goals as goal
 
 pub returns-clause-engine : goal.returns-clause-engine
@@ -30,6 +32,8 @@ returns-clause-engine c =
       has = has;
       exact = exactly c.known_calls_of_policies.ensures.policies c.functions_are_computed.ensures.nothing_asked agree
           standard_knowledge p t e has;
+      searches = searched standard_knowledge p t e has;
+      untouched = λ w q s none is. asked_untouched w (entities_of e) q s none is;
     })
     c.engine_of_texts.result c.engine_of_texts.ensures.engine
 
