@@ -3,6 +3,10 @@ use clap::builder::ValueParser;
 use clap::{Arg, ArgAction, Command};
 use std::alloc::{AllocError, Global};
 
+// The version: of the program, of the language, and of the kit that proved and built it.
+const VERSION: &str =
+    "0.1.0 (Cedar as of cedar-policy-core 4.14.1; rattle-kit-13f logic dac8208d650f15bf)";
+
 /// How policies that err are handled.
 pub(crate) const HANDLINGS: [&str; 2] = ["skip", "forbid"];
 
@@ -19,6 +23,7 @@ const STEP_FILES: [&str; 2] = ["VALUES", "ENTITIES"];
 pub(crate) fn cedar<'a>(alloc: Global) -> Result<Command<'a>, AllocError> {
     Command::new(alloc, "cedar")
         .bin_name("cedar")?
+        .version(VERSION)
         .about("Answers questions about Cedar's policies. A FILE that is `-` is standard input")
         .subcommand_required(true)
         .arg_required_else_help(true)
