@@ -1,4 +1,4 @@
-//! What is reported of policies that can be read, but can't be meant.
+//! What is told of policies that can be read, but can't be meant.
 ghost use Rattle.std.specs.Prelude.{◌≡◌, ◌++◌, true, [], IfOk, OnOk, IfErr, string_bytes, option_map, is_some};
 ghost use Rattle.cedar_layers.specs.PolicySets.{stored_policies};
 ghost use Rattle.cedar_cli.specs.Reasons.{IsToldFor, AreUnreadFor};
@@ -8,13 +8,13 @@ ghost use Rattle.cedar_cli.specs.Strict.{AreFindingLines, AreFindings, AreAllTol
 
 use crate::asked::Source;
 use crate::decisions::Printed;
-use crate::places::{Places, push_noted};
+use crate::places::Places;
 use crate::policies::{push_name, read_for};
 use crate::refusal::Refusal;
 use crate::repeated::push_alike;
 use crate::warnings::push_warning;
 use cedar_policy_core::ast::{Policy, PolicySet};
-use cedar_policy_core::parser::ParsedPolicies;
+use cedar_policy_core::parser::{Loc, ParsedPolicies};
 use cedar_unsatisfiable::{always_errs, is_unsatisfiable, late_test};
 use std::alloc::{AllocError, Global};
 
@@ -29,10 +29,9 @@ pub(crate) enum Finding {
     Late,
 }
 
-/// Whether the policies can be read, as `check_policies` has it; beside that each policy and template is reported of
-/// which the text shows that it applies in no world, that it errs wherever its scope holds, that it tests an attribute
-/// after it read it, or that one before says the same. The status is 1 if one is reported and `is_denied` is set, and
-/// else 0.
+/// Whether the policies can be read, as `check_policies` has it; beside that each policy and template is told of which
+/// the text shows that it applies in no world, that it errs wherever its scope holds, that it tests an attribute after
+/// it read it, or that one before says the same. The status is 1 if one is told and `is_denied` is set, and else 0.
 pub fn check_strictly(
     alloc: Global,
     source: Source<'_>,
@@ -127,7 +126,7 @@ fn push_of_templates(
     Ok(())
 }
 
-// Reports of the policy if its text shows it.
+// Tells of the policy if its text shows it.
 fn push_if_found(
     alloc: Global,
     places: &Places<'_>,
@@ -144,7 +143,7 @@ fn push_if_found(
     Ok(())
 }
 
-// The words that are reported of the policy, if its text shows it.
+// The words that are told of the policy, if its text shows it.
 fn words_of(alloc: Global, finding: Finding, policy: &Policy) -> Result<Option<String>, AllocError>
     ensures words { IfOk result
         (λ o. option_map string_bytes o ≡ words_found (finding_view finding) policy.now) }
@@ -247,4 +246,23 @@ fn found_line(
     line.push_str("`")?;
     line.push_str(words)?;
     Ok(line)
+}
+
+// `: line L, column C`, if the place is known.
+fn push_noted(
+    alloc: Global,
+    places: &Places<'_>,
+    place: Option<Loc>,
+    line: &mut String,
+) -> Result<(), AllocError>
+    ensures { OnOk result (string_bytes line.new
+        ≡ string_bytes line.old ++ specs.noted_text places.now.source.text.now place) }
+{
+    match place {
+        Some(loc) => {
+            let (number, column) = places.place_of(loc);
+            line.push_str(format!(in alloc; ": line {number}, column {column}")?.as_str())
+        }
+        None => Ok(()),
+    }
 }

@@ -11,4 +11,3 @@ mod Untold
 mod Changed
 mod Lined
 mod Versions
-mod Counted

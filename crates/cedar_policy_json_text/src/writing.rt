@@ -1,13 +1,11 @@
 //! Policies as text, under their ids.
 ghost use Rattle.std.specs.Prelude.{IfErr};
-ghost use Rattle.cedar_policy_json_text.specs.Kept.{IsOfText};
+ghost use Rattle.cedar_policy_json_text.specs.Kept.{IsOwn};
 
 use crate::errors::PolicyTextError;
 use crate::kept::annotated_id;
-use crate::names::is_linked;
-use crate::paths::another_name;
 use crate::placing::placed_with;
-use cedar_layers::policies::{Annotations, Policy};
+use cedar_layers::policies::{Annotations, Policy, PolicyID};
 use cedar_names::shared::write_quoted;
 use cedar_policy_set_reader::ReadPolicies;
 use cedar_text_printer::policy_to_cedar;
@@ -18,16 +16,16 @@ use std::rc::RcStr;
 
 /// The policies, and behind them the templates, with an empty line between two.
 pub(crate) fn text_of(alloc: Global, set: &ReadPolicies) -> Result<String, PolicyTextError>
-    ensures { IfErr result IsOfText }
+    ensures { IfErr result IsOwn }
 {
     let mut text = String::new(alloc);
     let mut number: usize = 0;
     'policies: for policy in set.policies.policies() {
-        push_policy(alloc, "staticPolicies", policy, number, &mut text)?;
+        push_policy(alloc, policy, number, &mut text)?;
         number = number.saturating_add(1);
     }
     'templates: for template in set.templates.as_slice() {
-        push_policy(alloc, "templates", template, number, &mut text)?;
+        push_policy(alloc, template, number, &mut text)?;
         number = number.saturating_add(1);
     }
     Ok(text)
@@ -35,43 +33,41 @@ pub(crate) fn text_of(alloc: Global, set: &ReadPolicies) -> Result<String, Polic
 
 fn push_policy(
     alloc: Global,
-    part: &str,
     policy: &Policy,
     number: usize,
     text: &mut String,
 ) -> Result<(), PolicyTextError>
-    ensures { IfErr result IsOfText }
+    ensures { IfErr result IsOwn }
 {
     if number > 0 {
         text.push_str("\n")?;
     }
-    let written = policy_text(alloc, part, policy, number)?;
+    let written = policy_text(alloc, policy, number)?;
     text.push_str(&written)?;
     text.push_str("\n")?;
     Ok(())
 }
 
-/// The policy of this number in the text, on lines of its own. It stands in this part of the JSON.
+/// The policy of this number in the text, on lines of its own.
 pub(crate) fn policy_text(
     alloc: Global,
-    part: &str,
     policy: &Policy,
     number: usize,
 ) -> Result<String, PolicyTextError>
-    ensures { IfErr result IsOfText }
+    ensures { IfErr result IsOwn }
 {
-    if is_linked(policy) {
-        linked_text(alloc, policy)
-    } else {
-        let name = name_line(alloc, part, policy, number)?;
+    if policy.env().is_empty() {
+        let name = name_of(alloc, policy, number)?;
         let written = policy_to_cedar(alloc, policy)?;
         Ok(format!(in alloc; "{name}{written}")?)
+    } else {
+        linked_text(alloc, policy)
     }
 }
 
 // The policy of a link: with its id as its annotation `id`, and its entities in place of slots.
 fn linked_text(alloc: Global, policy: &Policy) -> Result<String, PolicyTextError>
-    ensures { IfErr result IsOfText }
+    ensures { IfErr result IsOwn }
 {
     let annotations = named(alloc, policy)?;
     let placed = placed_with(alloc, policy, annotations)?;
@@ -94,13 +90,8 @@ fn named(alloc: Global, policy: &Policy) -> Result<Annotations, AllocError> {
 }
 
 // The annotation that names the policy, on a line; nothing, where it needs none.
-fn name_line(
-    alloc: Global,
-    part: &str,
-    policy: &Policy,
-    number: usize,
-) -> Result<String, PolicyTextError>
-    ensures { IfErr result IsOfText }
+fn name_of(alloc: Global, policy: &Policy, number: usize) -> Result<String, PolicyTextError>
+    ensures { IfErr result IsOwn }
 {
     let id = policy.id().to_string(alloc)?;
     let own = format!(in alloc; "policy{number}")?;
@@ -108,13 +99,24 @@ fn name_line(
         Some(name) => if name == id.as_str() || own == id {
             Ok(String::new(alloc))
         } else {
-            Err(another_name(alloc, part, policy))
+            Err(another_name(policy.id()))
         },
         None => if own == id {
             Ok(String::new(alloc))
         } else {
             Ok(format!(in alloc; "@id({})\n", Quoted { text: id.as_str() })?)
         },
+    }
+}
+
+#[cold]
+fn another_name(id: &PolicyID) -> PolicyTextError
+    ensures { IsOwn result }
+{
+    let copy: Result<PolicyID, AllocError> = id.clone();
+    match copy {
+        Ok(id) => PolicyTextError::AnotherName { id },
+        Err(error) => PolicyTextError::Memory(error),
     }
 }
 

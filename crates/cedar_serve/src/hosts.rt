@@ -2,7 +2,6 @@
 use crate::logged_lines::log_answers;
 use crate::logging::log_texts;
 use crate::serving::{Stopped, Texts, serve_texts};
-use cedar_log::Flushed;
 use http_server::{Config, State};
 use std::hash::RandomState;
 use std::io;
@@ -37,7 +36,7 @@ pub(crate) fn serve_host<R: Input + AllocGlobal + Print + RandomSource>(
     done(ended)
 }
 
-/// The same as `serve_host`, with this log, which is flushed after each decision.
+/// The same as `serve_host`, with this log.
 pub(crate) fn log_host<R: Input + AllocGlobal + Print + RandomSource, L: Write + Drop>(
     rt: &R,
     config: Config,
@@ -51,7 +50,7 @@ pub(crate) fn log_host<R: Input + AllocGlobal + Print + RandomSource, L: Write +
         keys,
         config,
         texts,
-        Flushed { writer: log },
+        log,
         &mut rt.reader(),
         &mut writer,
     );
@@ -59,7 +58,7 @@ pub(crate) fn log_host<R: Input + AllocGlobal + Print + RandomSource, L: Write +
     done(ended?)
 }
 
-/// Answers lines of standard input, through buffers, with this log, which is flushed after each decision.
+/// Answers lines of standard input, through buffers, with this log.
 pub(crate) fn log_lines_host<R: Input + AllocGlobal + Print, L: Write + Drop>(
     rt: &R,
     texts: Texts<'_>,
@@ -67,7 +66,6 @@ pub(crate) fn log_lines_host<R: Input + AllocGlobal + Print, L: Write + Drop>(
 ) -> Result<(), Stopped> {
     let mut reader = BufReader::new(rt.alloc(), rt.reader())?;
     let mut writer = BufWriter::new(rt.alloc(), io::writer(rt))?;
-    let log = Flushed { writer: log };
     let (log, answered) = log_answers(rt.alloc(), texts, log, &mut reader, &mut writer);
     drop(log);
     answered

@@ -17,5 +17,3 @@ mod Untold
 mod Over
 mod Without
 mod Laid
-mod Bounded
-mod Taken

@@ -37,8 +37,7 @@ types_view (rows.Several n) = of_several n
 
 abbrev pub table_view : SqlTable → SaidTable
 table_view t = record {
-  table = rc_str_bytes t.names.table;
-  names = map rc_str_bytes t.names.columns.items;
+  names = map rc_str_bytes t.names.items;
   id = t.columns.id;
   types = types_view t.columns.entity_type;
   attributes = map column_view t.columns.attributes.items;

@@ -1,4 +1,3 @@
 pub mod Meaning
 pub mod Said
 pub mod Telling
-pub mod Types

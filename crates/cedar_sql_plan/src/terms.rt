@@ -3,9 +3,8 @@ ghost use Rattle.std.specs.Prelude.{◌≡◌, IfOk};
 ghost use Rattle.sqlite_sql.specs.Term.{op1, op2};
 ghost use Rattle.sqlite_sql.specs.declared.ops.UnaryOp.TheVariants.{Not};
 ghost use Rattle.sqlite_sql.specs.declared.ops.BinaryOp.TheVariants as by;
-ghost use Rattle.cedar_sql.specs.Terms.{sql_term, is_truth, equals};
+ghost use Rattle.cedar_sql.specs.Terms.{sql_term, is_truth};
 
-use cedar_filter::Comparison;
 use cedar_sql::SqlTerm;
 use std::alloc::{AllocError, Global};
 
@@ -21,13 +20,6 @@ pub(crate) fn negated(alloc: Global, part: SqlTerm) -> Result<SqlTerm, AllocErro
 {
     let part = boxed(alloc, part)?;
     Ok(SqlTerm::Not(part))
-}
-
-pub(crate) fn equal(alloc: Global, first: SqlTerm, second: SqlTerm) -> Result<SqlTerm, AllocError>
-    ensures { IfOk result (λ t. sql_term t ≡ equals (sql_term first) (sql_term second)) }
-{
-    let (first, second) = boxed_pair(alloc, first, second)?;
-    Ok(SqlTerm::Compare(Comparison::Equal, first, second))
 }
 
 pub(crate) fn both(alloc: Global, first: SqlTerm, second: SqlTerm) -> Result<SqlTerm, AllocError>
