@@ -14,12 +14,14 @@ It looks at README.md, CONTRIBUTING.md, CHANGELOG.md, docs/*.md and attacks/READ
   docs/flow.py draws (docs/samples.py compares what the documents show);
 - each file with an `unsafe` is named in docs/MODEL.md;
 - of each edit in attacks/ and must-fail/, the text of each `old:` stands once in its file, the edits before it made;
+- each program's VERSION is the same, and ends with what `rt version` prints;
 - no line is longer than 160 characters (rows of tables aside), no paragraph than 600, no cell than 300, README than 900 words.
 
 It prints a line for each fault and ends with status 1, or prints one line of what it looked at."""
 import glob
 import os
 import re
+import subprocess
 import sys
 
 sys.dont_write_bytecode = True
@@ -234,6 +236,16 @@ def edits():
                 text = text.replace(old, line[5:], 1)
 
 
+def versions():
+    """Each program prints the same version, with the kit's."""
+    found = {path: re.findall(r'const VERSION: &str =\s*"([^"]*)"', read(path)) for path in files("crates/*/src/*.rt")}
+    found = {path: it[0] for path, it in found.items() if it}
+    kit = subprocess.run(["rt", "version"], stdout=subprocess.PIPE, encoding="utf-8", check=False).stdout.strip()
+    for path, version in found.items():
+        wants(version == next(iter(found.values())), f"{path}: another VERSION than {next(iter(found))}")
+        wants(kit and version.endswith(f"; {kit})"), f"{path}: VERSION does not name {kit or 'rt version'}")
+
+
 def main():
     by_crate, words = sources()
     house = contracts.House()
@@ -271,6 +283,7 @@ def main():
     wants(read("docs/HEADLINE.md") == headline.page(), "docs/HEADLINE.md: not what docs/headline.py makes: run it")
     wants(read("docs/flow.svg") == flow.picture(), "docs/flow.svg: not what docs/flow.py draws: run it")
     edits()
+    versions()
     for it in faults:
         print(f"docs/check: {it}")
     if faults:

@@ -29,6 +29,8 @@ METADATA = "/.well-known/authzen-configuration"
 SEARCH = {part: f"/access/v1/search/{part}" for part in ("subject", "action", "resource")}
 URL = "https://pdp.example.com"
 PAGE_SIZE = 2
+# How much a request may bring and ask, and how many candidates a page looks at: `args` says so too.
+MOST_ENTITIES, MOST_PARENTS, MOST_EVALUATIONS, MOST_CANDIDATES = 2, 3, 4, 8
 NO_HOUR = "record does not have the attribute `hour`"
 
 
@@ -240,6 +242,10 @@ def not_several(what, path, reason, body):
     return (what, request("POST", EVALUATIONS, body), wrong(path, reason))
 
 
+def too_many(what, all, items):
+    return (what, request("POST", EVALUATIONS, all | {"evaluations": items}), wrong("$.evaluations", "too many (--max-evaluations)", 413))
+
+
 # Of these the first and the last are permitted.
 MIXED = [{"resource": said(PLAN)}, {"resource": said(VAULT)}, {"subject": said(BOB), "resource": said(PLAN)}, {"resource": said(MENU)}]
 MIXED_DUE = [item(ANN, "read", PLAN), item(ANN, "read", VAULT), item(BOB, "read", PLAN), item(ANN, "read", MENU)]
@@ -259,6 +265,10 @@ SEVERAL = [
     several("the context of all, and one of its own, which is taken whole", READS | {"resource": said(VAULT), "context": {"role": "auditor"}},
             [{}, {"context": {"hour": 9}}], [item(ANN, "read", VAULT, {"role": "auditor"}), item(ANN, "read", VAULT, {"hour": 9})]),
     several("a resource of its own is taken whole", READS | {"resource": said(PLAN)}, [{"resource": {"id": "vault"}}], [denied("$.resource.type", "missing")]),
+    several("so many as may be", READS, [MIXED[0]] * MOST_EVALUATIONS, [MIXED_DUE[0]] * MOST_EVALUATIONS),
+    too_many("one more", READS, [MIXED[0]] * (MOST_EVALUATIONS + 1)),
+    too_many("one more, where the first stops", READS | {"options": {"evaluations_semantic": "permit_on_first_permit"}}, [MIXED[0]] * (MOST_EVALUATIONS + 1)),
+    too_many("one more, of which none says anything", {}, [0] * (MOST_EVALUATIONS + 1)),
     several("the same one twice", READS, [MIXED[0], MIXED[0]], [MIXED_DUE[0], MIXED_DUE[0]]),
     ("no list is one evaluation", request("POST", EVALUATIONS, GOOD), due(200, GOOD_DUE)),
     ("an empty list is one evaluation", request("POST", EVALUATIONS, GOOD | {"evaluations": []}), due(200, GOOD_DUE)),
@@ -316,7 +326,7 @@ def page(part, known, context, after):
     """What is due to the page behind so many candidates: what is found, and where the next one begins."""
     found, place = [], after
     while place < len(STORED):
-        if len(found) == PAGE_SIZE:
+        if len(found) == PAGE_SIZE or place - after == MOST_CANDIDATES:
             return found, f"{VERSION}-{place}"
         if permitted(part, known, context, STORED[place]):
             found.append(STORED[place])
@@ -355,7 +365,7 @@ SEARCHES = [
     *pages("who may read what is sealed", "subject", OF_PLAN | {"resource": VAULT}),
     *pages("what ann may do", "action", WITH_PLAN),
     *pages("what bob may do", "action", WITH_PLAN | {"subject": BOB}, {"hour": 9}),
-    *pages("an empty page asks for the first", "resource", BY_ANN | {"subject": BOB}, page={}),
+    pages("an empty page asks for the first", "resource", BY_ANN | {"subject": BOB}, page={})[0],
     ("an id is not looked at", request("POST", SEARCH["resource"], evaluation(BOB, "read", PLAN)),
      due(200, {"results": [said(it) for it in page("resource", BY_ANN | {"subject": BOB}, None, 0)[0]],
                "page": {"next_token": page("resource", BY_ANN | {"subject": BOB}, None, 0)[1]}})),
@@ -483,7 +493,7 @@ class World:
         type_name = self.action_type if part == "action" else body[part]["type"]
         found, place = [], after
         while place < len(self.candidates):
-            if len(found) == PAGE_SIZE:
+            if len(found) == PAGE_SIZE or place - after == MOST_CANDIDATES:
                 return found, f"{self.version}-{place}"
             it = self.candidates[place]
             place += 1
@@ -606,7 +616,7 @@ MANY = [
     ("properties of what is searched for", request("POST", SEARCH["subject"], {"subject": {"type": "User", "properties": {"a": 1}}, "action": {"name": "read"},
      "resource": said(PLAN)}), wrong("$.subject.properties", "properties of what is searched for")),
     ("empty ones are none", request("POST", SEARCH["resource"], {"subject": said(BOB), "action": {"name": "delete"}, "resource": {"type": "Document", "properties": {}}}),
-     due(200, {"results": [said(("Document", "draft"))], "page": {"next_token": ""}})),
+     due(200, {"results": [said(("Document", "draft"))], "page": {"next_token": f"{VERSION}-{MOST_CANDIDATES}"}})),
     ("an attribute that is stored, of a search", request("POST", SEARCH["action"], {"subject": said(BOB), "resource": said(PLAN) | {"properties": {"owner": USED}}}),
      wrong("$.resource.properties.owner", has_already(PLAN, "owner"))),
     ("null in the properties of a search", request("POST", SEARCH["resource"], {"subject": said(BOB) | {"properties": {"a": [None]}}, "action": {"name": "read"},
@@ -649,6 +659,13 @@ def labelled(id, row):
 
 
 LOOP, OTHER = ("Group", "loop"), ("Group", "other")
+TOO_MANY, TOO_MANY_PARENTS = "too many (--max-request-entities)", "too many parents (--max-request-ancestors)"
+
+
+def too_large(what, path, reason, *entities):
+    return (what, request("POST", path, with_entities(ZOE, PLAN, *entities)), wrong("$.entities", reason, 413))
+
+
 BROUGHT = [
     HERE.authorizes("an entity that is brought", with_entities(ZOE, PLAN, entity(ZOE, EDITORS))),
     HERE.authorizes("the next has it no more", with_entities(ZOE, PLAN)),
@@ -678,6 +695,13 @@ BROUGHT = [
     ("entities and no context", request("POST", AUTHORIZE, but(with_entities(ZOE, PLAN, entity(ZOE)), context=None)), wrong("$.context", "missing")),
     ("an unknown beside entities", request("POST", AUTHORIZE, with_entities(ZOE, PLAN, entity(ZOE), context={"a": {"__extn": {"fn": "unknown", "arg": "a"}}})),
      wrong("$.context", "an unknown stands in it")),
+    HERE.authorizes("so many entities as may be, with so many parents", with_entities(ZOE, PLAN, entity(ZOE, EDITORS, OTHER), entity(OTHER, EDITORS))),
+    too_large("one entity more", AUTHORIZE, TOO_MANY, entity(ZOE), entity(OTHER), entity(LOOP)),
+    too_large("one parent more", AUTHORIZE, TOO_MANY_PARENTS, entity(ZOE, EDITORS, OTHER), entity(OTHER, EDITORS, EDITORS)),
+    too_large("one parent more, the same each time", AUTHORIZE, TOO_MANY_PARENTS, entity(ZOE, EDITORS, EDITORS, EDITORS, EDITORS)),
+    too_large("one entity more, of which none says anything", AUTHORIZE, TOO_MANY, 0, 0, 0),
+    too_large("what is left, with one entity more", PARTLY, TOO_MANY, entity(ZOE), entity(OTHER), entity(LOOP)),
+    too_large("what is left, with one parent more", PARTLY, TOO_MANY_PARENTS, entity(ZOE, EDITORS, EDITORS, EDITORS, EDITORS)),
     HERE.authorizes("after all of these it is not there", with_entities(ZOE, PLAN)),
     partly("what is left, with an entity", with_entities(ZOE, PLAN, entity(ZOE, EDITORS)), "allow", ["policy0"], {}, [], ["policy0"]),
     partly("what is left, without", with_entities(ZOE, PLAN), "deny", [], {}, []),
@@ -692,12 +716,29 @@ LABELLED = [
     *(labelled(id, row) for id, row in zip(LABELS, PARTIAL[:5])),
     *(labelled(id, row) for id, row in zip(LABELS, [it for it in PARTIAL if "a principal that is a number" in it[0] or "null in" in it[0]])),
     labelled(1, next(it for it in BROUGHT if it[0] == "what is left, with one that is stored")),
+    labelled(2, next(it for it in BROUGHT if it[0] == "one entity more")),
+    labelled(3, next(it for it in BROUGHT if it[0] == "what is left, with one parent more")),
     PARTIAL[0],
     ("an id twice", request("POST", AUTHORIZE, b'{"id":1,"id":1}'), wrong("$", "a key comes twice in an object")),
     ("an id twice, of what is left", request("POST", PARTLY, b'{"id":1,"id":1}'), wrong("$", "a key comes twice in an object")),
     ("an id alone", request("POST", AUTHORIZE, {"id": 1}), due(400, {"id": 1, "error": {"path": "$.principal", "reason": "missing"}})),
     ("an id within", request("POST", AUTHORIZE, [{"id": 1}]), wrong("$", "not an object")),
     ("an id of an evaluation", request("POST", EVALUATION, GOOD | {"id": 1}), wrong("$", "an unexpected member")),
+]
+
+
+# Without `--request-entities allowed`.
+NOT_TAKEN = wrong("$.entities", "not taken (--request-entities)")
+ALONE = [
+    ("an entity is not taken", request("POST", AUTHORIZE, with_entities(ZOE, PLAN, entity(ZOE, EDITORS))), NOT_TAKEN),
+    ("nor many", request("POST", AUTHORIZE, with_entities(ZOE, PLAN, *[entity(ZOE)] * 1000)), NOT_TAKEN),
+    ("nor what is none", request("POST", AUTHORIZE, with_entities(ZOE, PLAN) | {"entities": {}}), NOT_TAKEN),
+    ("nor null", request("POST", AUTHORIZE, with_entities(ZOE, PLAN) | {"entities": None}), NOT_TAKEN),
+    labelled(7, ("nor one with an id", request("POST", AUTHORIZE, with_entities(ZOE, PLAN, entity(ZOE, EDITORS))), NOT_TAKEN)),
+    ("nor where parts are unknown", request("POST", PARTLY, with_entities(ZOE, PLAN, entity(ZOE, EDITORS))), NOT_TAKEN),
+    HERE.authorizes("an empty array is none", with_entities(ANN, PLAN)),
+    partly("an empty array is none, of what is left", with_entities(ZOE, PLAN), "deny", [], {}, []),
+    HERE.authorizes("what is stored decides", but(with_entities(ANN, PLAN), entities=None)),
 ]
 
 
@@ -1014,6 +1055,10 @@ def run(program):
         check("the same in pieces", [sent[a:b] for a, b in zip([0, *cuts], [*cuts, len(sent)])], wanted)
     for what, last, ends in LAST:
         check(what, [request("POST", EVALUATION, GOOD) + last], due(200, GOOD_DUE) + ends)
+    words = options()
+    at = words.index("--request-entities")
+    check("no entities are taken", [it[1] for it in ALONE], b"".join(it[2] for it in ALONE), words[:at] + words[at + 2:])
+    check("none are taken, by name", [it[1] for it in ALONE], b"".join(it[2] for it in ALONE), [*words[:at + 1], "none", *words[at + 2:]])
     check("the request wins", [it[1] for it in WINNING], b"".join(it[2] for it in WINNING), ["win" if it == "beside" else it for it in options()])
     with tempfile.TemporaryDirectory() as folder:
         typed = os.path.join(folder, "typed.cedar")

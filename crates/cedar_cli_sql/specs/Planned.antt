@@ -42,18 +42,18 @@ abbrev pub first_line : Bool → Text
 first_line false = []
 first_line true = codes "-- candidates: rows that may be allowed\n"
 
--- the expression stands on a line, where the columns have these names
+-- the expression stands on a line, where the table and its columns are called so
 abbrev pub sql_line : SqlTable → Bool → SqlTerm → Text
 sql_line table is_candidates t =
-    first_line is_candidates ++ (term_text table.names.items false t ++ codes "\n")
+    first_line is_candidates ++ (term_text table.names false t ++ codes "\n")
 
--- the expression is 1 exactly on the rows that are allowed whatever the policies do that SQL does not say: what it shows
--- is allowed
+-- the expression is 1 exactly on the rows that can stand for the unknown and are allowed whatever the policies do that SQL
+-- does not say: what it shows can, and is allowed
 pub record IsOfAllowed (p : Plan) (columns : Columns) (t : SqlTerm) : Type 0 where
   pub allowed : IsAllowedTerm p columns (sql_term t)
   pub shown : ShowsAllowed p columns (sql_term t)
 
--- it is 0 exactly on those that are denied whatever they do: what it leaves out is denied
+-- it is 0 exactly on those that can't or are denied whatever they do: what it leaves out of those that can is denied
 pub record IsOfCandidates (p : Plan) (columns : Columns) (t : SqlTerm) : Type 0 where
   pub candidates : IsCandidateTerm p columns (sql_term t)
   pub left_out : LeavesOutDenied p columns (sql_term t)
@@ -80,7 +80,7 @@ pub record IsPlannedFor (table : SqlTable) (is_candidates : Bool) (r : PartialRe
   pub no_limit : HaveNoLimit (errors_of r)
   pub printed : IsPrintedOf table is_candidates plan p
 
--- its request has an unknown that each entity of the table can stand for
+-- its request has an unknown that entities of the table can stand for
 pub record IsPlannedOf (table : SqlTable) (is_candidates : Bool) (r : PartialResponse) (p : Printed) : Type 0 where
   pub row : UnknownFields
   pub row_is : row_in (request_view (request_of r)) ≡ Some (row_term row)

@@ -23,8 +23,8 @@ or_else (Some t) o = Some t
 abbrev pub row_in : RequestPart → Option Term
 row_in r = or_else (unknown_of (codes "resource") r.resource_entry) (unknown_of (codes "principal") r.principal_entry)
 
--- each entity of the table can stand for an unknown of this type: the table has entities of this type alone, or the
--- unknown is of any
+-- entities of the table can stand for an unknown of this type: the table has entities of this type alone, or of several
+-- types, or the unknown is of any
 abbrev pub fits : Option ValueType → RowType → Bool
 fits None r = true
 fits (Some bool_type) r = false
@@ -33,7 +33,7 @@ fits (Some string_type) r = false
 fits (Some set_type) r = false
 fits (Some record_type) r = false
 fits (Some (entity_type t)) (One u) = text_eq (type_text u) t
-fits (Some (entity_type t)) (Several n) = false
+fits (Some (entity_type t)) (Several n) = true
 fits (Some (extension_type t)) r = false
 
 abbrev pub row_fits : UnknownFields → RowType → Bool

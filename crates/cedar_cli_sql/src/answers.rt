@@ -41,12 +41,13 @@ struct Planning<'p> {
 }
 
 /// The SQL expression of the rows that the policies allow, where these are the functions, and each row of the table is an
-/// entity that stands for the resource, which is not known; or for the principal, where the resource is. On a row of the
-/// table it is 1 where the policies allow, whatever those of them decide that SQL does not say, each of which is told as a
-/// warning; else it is 0. Of candidates it is 0 where the policies deny, whatever those decide; and a comment above it says
-/// so. Refused where the entities are said to be all that there are, since the rows are not among them; where the table,
-/// the policies or what is asked can't be read, where neither resource nor principal is unknown, where entities of the
-/// table can't stand for it, and where a policy met the limit of levels.
+/// entity that may stand for the resource, which is not known; or for the principal, where the resource is. On a row of the
+/// table it is 1 where the row is of the type that is asked for and the policies that SQL can say decide Allow, whatever
+/// the others do, each of which is reported as a warning; else it is 0. Of candidates it is 0 where the row is of another
+/// type or they decide Deny, whatever the others do; and a comment above it says so. Refused where the entities are said to
+/// be all that there are, since the rows are not among them; where the table, the policies or what is asked can't be read,
+/// where neither resource nor principal is unknown, where the table is of one type whose entities can't stand for it, and
+/// where a policy met the limit of levels.
 pub fn plan_as_sql(
     alloc: Global,
     extensions: &Extensions<'_>,
@@ -262,7 +263,7 @@ fn plan_row(
 fn no_fit(alloc: Global) -> Refusal {
     let line = String::from_str(
         alloc,
-        "--sql: the rows may be of another type than the one that is asked",
+        "--sql: the rows are of another type than the one that is asked",
     );
     refuse_with_line(alloc, line)
 }

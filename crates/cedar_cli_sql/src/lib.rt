@@ -6,10 +6,10 @@
 //!
 //! The promise, from the texts and the options on: what is printed is the text of an expression which `cedar_sql_plan`
 //! promises of the plan of the partial response to the question that the texts say (`specs/Planned`, over `Stages` and
-//! `Questions` of `cedar_cli`). So a row that it shows is allowed, whatever the policies decide that SQL does not say; with
-//! candidates, a row that it leaves out is denied. It is refused for the reasons of `specs/Unplanned` alone. That a reader
-//! of SQL reads this expression of the text is tested, not proved (`docs/PROVED.md`). What is told on standard error is
-//! tested by `cedar_test_cli`.
+//! `Questions` of `cedar_cli`). So a row that it shows is of the type that is asked for and is allowed, whatever the policies
+//! decide that SQL does not say; with candidates, a row of that type that it leaves out is denied. It is refused for the
+//! reasons of `specs/Unplanned` alone. That a reader of SQL reads this expression of the text is tested, not proved
+//! (`docs/PROVED.md`). What is told on standard error is tested by `cedar_test_cli`.
 #![tactic(auto)]
 
 mod answers;

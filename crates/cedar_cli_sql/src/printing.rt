@@ -75,7 +75,7 @@ fn print_term(
     ensures status { IfOk result (λ p. p.status ≡ 0) }
 {
     let first = first_line(is_candidates);
-    let text = term_to_sql(alloc, term, table.names.as_slice())?;
+    let text = term_to_sql(alloc, term, &table.names)?;
     let output = format!(in alloc; "{first}{text}\n")?;
     Ok(Printed {
         output,

@@ -63,7 +63,7 @@ fn unknown_typed(alloc: Global, name: &str, ty: &EntityType) -> Result<Unknown, 
     })
 }
 
-/// Whether each entity of a table of this type can stand for the unknown.
+/// Whether entities of a table of this type can stand for the unknown. Of several types each row is tested for its own.
 pub(crate) fn fits(row: &Unknown, table: &RowType) -> bool
     ensures { result ≡ row_fits row.now table.now }
 {
@@ -92,6 +92,6 @@ fn entity_fits(ty: &EntityType, table: &RowType) -> bool
 {
     match table {
         RowType::One(own) => same_type(own, ty),
-        RowType::Several(_) => false,
+        RowType::Several(_) => true,
     }
 }

@@ -1,11 +1,10 @@
 -- What becomes of a service.
-use Rattle.std.proofs.Common.{◌≡◌, refl, sym, subst, Bool, true, false, List, ℕ, Some, Result, Ok, Err, OnOk, string_bytes}
+use Rattle.std.proofs.Common.{◌≡◌, refl, sym, subst, Bool, true, false, List, ℕ, Some, Result, Ok, Err, OnOk}
 use Rattle.http.specs.declared.request.Request.{Request}
 use Rattle.http.specs.Request.{body_of}
 use Rattle.http_server.specs.declared.response.Response.{Response}
 use Rattle.cedar_endpoints.specs.declared.reloads.Untaken.{Untaken}
 use Rattle.cedar_endpoints.specs.declared.reloads.Untaken.TheVariants as untakens
-use Rattle.cedar_endpoints.specs.declared.replies.Reply.{Reply}
 use Rattle.cedar_endpoints.specs.declared.routes.Replaced.{Replaced}
 use Rattle.cedar_endpoints.specs.declared.routes.Route.{Route}
 use Rattle.cedar_endpoints.specs.declared.routes.Route.TheVariants as routes
@@ -13,7 +12,7 @@ use Rattle.cedar_endpoints.specs.declared.service.Decisions.{Decisions}
 use Rattle.cedar_endpoints.specs.Asked.{Text}
 use Rattle.cedar_endpoints.specs.Answered.{IsAnswered, stays, takes, IsTakenSent, IsUntakenSent}
 use Rattle.cedar_endpoints.specs.Reloads.{replaced_by, IsUntaken, IsUntakenAs, IsUntakenIf}
-use Rattle.cedar_endpoints.specs.Served.{Offers, IsReply, IsServed, asked_route, request_id}
+use Rattle.cedar_endpoints.specs.Served.{Offers, IsReply, IsServed, asked_route}
 
 -- the route by which a text is to be taken
 is_reload : (allows : Bool) (route : Route) (part : Replaced) → replaced_by allows route ≡ Some part

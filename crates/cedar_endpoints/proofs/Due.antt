@@ -1,5 +1,5 @@
 -- What is sent is what is due.
-use Rattle.std.proofs.Common.{◌≡◌, subst, List, ℕ, Option, Result, Ok, Err, OnOk, string_bytes}
+use Rattle.std.proofs.Common.{◌≡◌, subst, List, ℕ, Result, Ok, Err, OnOk, string_bytes}
 use Rattle.http.specs.declared.request.Request.{Request}
 use Rattle.http.specs.Request.{body_of}
 use Rattle.http_server.specs.declared.response.Response.{Response}

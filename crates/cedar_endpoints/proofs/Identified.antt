@@ -1,5 +1,5 @@
 -- The id of a request, and what stands in an object.
-use Rattle.std.proofs.Common.{◌≡◌, refl, sym, ap, ◌∙◌, ℕ, ◌==◌, Bool, true, false, List, [], ◌∷◌, ◌++◌, Option, None, Some, option_map, option_copied, MatchOption, Result, Ok, Err, IfOk, String, string_bytes, codes, if◌then◌else◌, eqb-true, ◌≢◌}
+use Rattle.std.proofs.Common.{◌≡◌, refl, sym, ap, ◌∙◌, ℕ, ◌==◌, Bool, true, false, [], ◌∷◌, ◌++◌, Option, None, Some, option_map, option_copied, MatchOption, Result, IfOk, String, string_bytes, codes, if◌then◌else◌, eqb-true, ◌≢◌}
 use Rattle.std.specs.Borrow.{Bor}
 use Rattle.std.specs.Str.Pattern.{FindsTextPrefix, StripsPrefix}
 use Rattle.json.specs.Json.{Json}

@@ -11,3 +11,4 @@ mod Untold
 mod Changed
 mod Lined
 mod Versions
+mod Counted

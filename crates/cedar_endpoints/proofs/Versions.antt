@@ -1,13 +1,11 @@
 -- Versions, as fields name them.
-use Rattle.std.proofs.Common.{◌≡◌, ◌∙◌, ap, sym, subst, List, ℕ, [], ◌∷◌, ◌++◌, append-nil, append_assoc, codes, Option, Result, Ok, Err, OnOk}
+use Rattle.std.proofs.Common.{◌≡◌, ◌∙◌, ap, sym, List, ℕ, [], ◌∷◌, ◌++◌, append-nil, append_assoc, codes, Option, Result, Ok, Err, OnOk}
 use Rattle.http1.specs.Fields.{Header}
 use Rattle.http_header.specs.FieldValue.{FieldValue, plain_value, IsFieldValue}
 use Rattle.http_header.specs.declared.value.HeaderValueError.{HeaderValueError}
 use Rattle.http_header.specs.declared.value.HeaderValueError.TheVariants as errors
-use Rattle.http_server.specs.declared.response.Response.{Response}
-use Rattle.http_server.specs.Response.{IsResponse}
 use Rattle.cedar_endpoints.specs.declared.answers.Status.{Status}
-use Rattle.cedar_endpoints.specs.Answers.{status_code, allowed, id_fields, fields_sent, NamesVersion, named, no_value, AddsVersion, IsSent}
+use Rattle.cedar_endpoints.specs.Answers.{allowed, id_fields, fields_sent, named, no_value, AddsVersion}
 
 -- one field more
 pub adds_named : {A E : Type 0} (version : List ℕ) (v : FieldValue) (o : Result A E) (old new : List Header)

@@ -1,12 +1,11 @@
 -- What becomes of a service by a request.
-use Rattle.std.specs.Prelude.{◌≡◌, List, ℕ, Some, OnOk, string_bytes}
+use Rattle.std.specs.Prelude.{◌≡◌, List, ℕ, Some, string_bytes}
 use Rattle.http.specs.declared.request.Request.{Request}
 use Rattle.http.specs.Request.{body_of}
 use Rattle.http_server.specs.declared.response.Response.{Response}
 use Rattle.cedar_endpoints.specs.declared.answers.Status.TheVariants as statuses
 use Rattle.cedar_endpoints.specs.declared.reloads.Untaken.{Untaken}
 use Rattle.cedar_endpoints.specs.declared.reloads.Untaken.TheVariants as untakens
-use Rattle.cedar_endpoints.specs.declared.replies.Reply.{Reply}
 use Rattle.cedar_endpoints.specs.declared.routes.Replaced.{Replaced}
 use Rattle.cedar_endpoints.specs.declared.service.Decisions.{Decisions}
 use Rattle.cedar_endpoints.specs.Answers.{IsSent}

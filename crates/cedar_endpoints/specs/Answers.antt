@@ -11,6 +11,7 @@ abbrev pub status_code : Status → ℕ
 status_code statuses.Ok = 200
 status_code statuses.BadRequest = 400
 status_code statuses.NotFound = 404
+status_code statuses.TooLarge = 413
 status_code statuses.PostOnly = 405
 status_code statuses.GetOnly = 405
 status_code statuses.PutOnly = 405
@@ -20,6 +21,7 @@ abbrev pub allowed : Status → List Header
 allowed statuses.Ok = []
 allowed statuses.BadRequest = []
 allowed statuses.NotFound = []
+allowed statuses.TooLarge = []
 allowed statuses.PostOnly = (codes "allow", codes "POST") ∷ []
 allowed statuses.GetOnly = (codes "allow", codes "GET, HEAD") ∷ []
 allowed statuses.PutOnly = (codes "allow", codes "PUT") ∷ []

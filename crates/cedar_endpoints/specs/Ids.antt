@@ -1,5 +1,5 @@
 -- The id that one of Cedar's own requests may have, which is handed back.
-use Rattle.std.specs.Prelude.{◌≡◌, ◌==◌, ⊤, List, ℕ, [], ◌∷◌, ◌++◌, Option, None, Some, IsSomeAnd, if◌then◌else◌, option_map, codes, string_bytes}
+use Rattle.std.specs.Prelude.{◌≡◌, ◌==◌, ⊤, [], ◌∷◌, ◌++◌, Option, None, Some, IsSomeAnd, if◌then◌else◌, option_map, codes, string_bytes}
 use Rattle.json.specs.Json.{Json, document}
 use Rattle.json.specs.Find.{get}
 use Rattle.json.specs.Print.{print}

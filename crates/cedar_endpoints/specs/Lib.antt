@@ -1,6 +1,7 @@
 pub mod Routes
 pub mod Answers
 pub mod Asked
+pub mod Bounds
 pub mod Searches
 pub mod Replies
 pub mod Documents

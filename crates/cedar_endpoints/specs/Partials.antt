@@ -115,10 +115,12 @@ partial_said j = unless (object_fault keys.Request [] j) (and_then (with_action 
 abbrev pub Leaves : Type 1
 Leaves = Partial → Text → Remainder → Type 0
 
--- what is left with 200, as it is; or why nothing is told with 400
+-- what is left with 200, as it is; or why nothing is told with 400, or with 413 where the request brings more than it
+-- may
 abbrev pub IsRemainder : Remainder → Reply → Type 0
 IsRemainder (remainders.Told response) = Replies statuses.Ok (string_bytes response)
 IsRemainder (remainders.Refused error) = Replies statuses.BadRequest (error_text (string_bytes error))
+IsRemainder (remainders.TooLarge error) = Replies statuses.TooLarge (error_text (string_bytes error))
 
 -- what is left for what is said; or 400 for what is wrong
 abbrev pub IsLeft : Leaves → Text → Said Partial → Reply → Type 0

@@ -37,7 +37,8 @@ pub record Replies (s : Status) (text : Text) (r : Reply) : Type 0 where
 abbrev pub IsFault : Status → Fault → Reply → Type 0
 IsFault s f = Replies s (error_text (fault_json f))
 
--- a decision with 200, or why there is none with 400
+-- a decision with 200, or why there is none with 400; with 413 where the request brings more than it may
 abbrev pub IsOutcome : Outcome → Reply → Type 0
 IsOutcome (outcomes.Decided b context) = Replies statuses.Ok (decision_text b (string_bytes context))
 IsOutcome (outcomes.Refused error) = Replies statuses.BadRequest (error_text (string_bytes error))
+IsOutcome (outcomes.TooLarge error) = Replies statuses.TooLarge (error_text (string_bytes error))

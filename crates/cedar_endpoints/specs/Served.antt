@@ -35,10 +35,11 @@ IsEvaluated decides j r = IsDecided decides (evaluation_said j) r
 
 -- ---- Cedar's own request
 
--- a response with 200, as it is; or why there is none with 400
+-- a response with 200, as it is; or why there is none with 400, or with 413 where the request brings more than it may
 abbrev pub IsResponded : Outcome → Reply → Type 0
 IsResponded (outcomes.Decided b context) = Replies statuses.Ok (string_bytes context)
 IsResponded (outcomes.Refused error) = Replies statuses.BadRequest (error_text (string_bytes error))
+IsResponded (outcomes.TooLarge error) = Replies statuses.TooLarge (error_text (string_bytes error))
 
 -- the response to a request, without its id
 abbrev pub IsResponseTo : Decides Text → Text → Reply → Type 0
@@ -58,7 +59,8 @@ IsMetadata None = IsFault statuses.NotFound (whole (codes "nothing is here"))
 IsMetadata (Some text) = Replies statuses.Ok text
 
 -- what a service has to offer: its decisions of evaluations and of Cedar's own requests, what it leaves of policies,
--- its searches, whether other policies and entities are taken in place of these, and where its endpoints are
+-- its searches, whether other policies and entities are taken in place of these, where its endpoints are, and how many
+-- evaluations one document may ask
 pub record Offers : Type 1 where
   pub decides : Decides Evaluation
   pub authorizes : Decides Text
@@ -66,12 +68,13 @@ pub record Offers : Type 1 where
   pub searches : Finder
   pub reloads : Reloads
   pub metadata : Option Text
+  pub most : ℕ
 
 abbrev pub reloads_of : Bool → Refuses → Reloads
 reloads_of allows refuses = record { allows = allows; refuses = refuses }
 
-abbrev pub offered : Decides Evaluation → Decides Text → Leaves → Finder → Reloads → Option Text → Offers
-offered decides authorizes leaves searches reloads metadata =
+abbrev pub offered : Decides Evaluation → Decides Text → Leaves → Finder → Reloads → Option Text → ℕ → Offers
+offered decides authorizes leaves searches reloads metadata most =
     record {
       decides = decides;
       authorizes = authorizes;
@@ -79,20 +82,21 @@ offered decides authorizes leaves searches reloads metadata =
       searches = searches;
       reloads = reloads;
       metadata = metadata;
+      most = most;
     }
 
 -- what is replied to a document, which this text writes: one evaluation is decided, or all of a document that may ask
 -- several, or it is a page of what is searched for, or what is left of policies
 abbrev pub IsAskedAs : Asks → Offers → Text → Json → Reply → Type 0
 IsAskedAs asks.One s text = IsEvaluated s.decides
-IsAskedAs asks.Several s text = AreEvaluated s.decides
+IsAskedAs asks.Several s text = AreEvaluated s.most s.decides
 IsAskedAs (asks.Part sought) s text = IsSearched s.searches sought
 IsAskedAs asks.Partly s text = IsPartlyAnswered s.leaves text
 
 -- what is replied at an endpoint to a body
 abbrev pub IsReply : Offers → Route → Text → Reply → Type 0
 IsReply s routes.Evaluation body r = IsRepliedTo (IsEvaluated s.decides) body r
-IsReply s routes.Evaluations body r = IsRepliedTo (AreEvaluated s.decides) body r
+IsReply s routes.Evaluations body r = IsRepliedTo (AreEvaluated s.most s.decides) body r
 IsReply s (routes.Search sought) body r = IsRepliedTo (IsSearched s.searches sought) body r
 IsReply s routes.Authorize body r = IsAuthorized s.authorizes body r
 IsReply s routes.PartiallyAuthorize body r = IsRepliedTo (IsPartlyAnswered s.leaves body) body r

@@ -1,5 +1,5 @@
 -- What a document with several evaluations asks, and what is replied.
-use Rattle.std.specs.Prelude.{◌≡◌, ◌++◌, Bool, true, false, not, if◌then◌else◌, List, [], ◌∷◌, Option, Some, None, Ok, Err, option_map, bytes_eq, codes, string_bytes}
+use Rattle.std.specs.Prelude.{◌≡◌, ◌++◌, ℕ, suc, nat_lt, Bool, true, false, not, if◌then◌else◌, List, [], ◌∷◌, Option, Some, None, Ok, Err, option_map, bytes_eq, codes, string_bytes}
 use Rattle.std.specs.List.{join_by}
 use Rattle.json.specs.Json.{Json, Items, no_items, item}
 use Rattle.json.specs.Find.{as_array, as_str, get}
@@ -12,7 +12,7 @@ use Rattle.cedar_endpoints.specs.declared.replies.Reply.{Reply}
 use Rattle.cedar_endpoints.specs.declared.semantics.Semantic.{Semantic}
 use Rattle.cedar_endpoints.specs.declared.semantics.Semantic.TheVariants as semantics
 use Rattle.cedar_endpoints.specs.declared.several.Several as lists
-use Rattle.cedar_endpoints.specs.Asked.{Text, Said, Evaluation, wrong, unless, and_then, object_fault, text_in, evaluation_of}
+use Rattle.cedar_endpoints.specs.Asked.{Text, Said, Fault, Evaluation, wrong, unless, and_then, object_fault, text_in, evaluation_of}
 use Rattle.cedar_endpoints.specs.Replies.{Replies, IsFault, IsOutcome, decision_text, error_text, fault_json}
 
 -- ---- what is asked
@@ -97,6 +97,7 @@ IsDeniedFor error b t = (b ≡ false) × (t ≡ decision_text false (error_text 
 abbrev pub IsItemOf : Outcome → Bool → Text → Type 0
 IsItemOf (outcomes.Decided allowed context) b t = (b ≡ allowed) × (t ≡ decision_text allowed (string_bytes context))
 IsItemOf (outcomes.Refused error) b t = IsDeniedFor (string_bytes error) b t
+IsItemOf (outcomes.TooLarge error) b t = IsDeniedFor (string_bytes error) b t
 
 -- the same of what is said of an item: one that is wrong is not allowed
 abbrev pub IsItemSaid : Decides Evaluation → Said Evaluation → Bool → Text → Type 0
@@ -123,14 +124,30 @@ joined ts = join_by (λ t. t) (codes ",") ts
 abbrev pub list_text : Text → Text
 list_text items = codes "{\"evaluations\":[" ++ (items ++ codes "]}")
 
--- a list of decisions, where several are asked; without a list, that of the one that is asked
-abbrev pub AreDecided : Decides Evaluation → Json → Said (Option Several) → Reply → Type 0
-AreDecided decides j (Err f) r = IsFault statuses.BadRequest f r
-AreDecided decides j (Ok None) r = IsDecided decides (evaluation_of keys.Evaluations j None) r
-AreDecided decides j (Ok (Some s)) r =
+abbrev pub item_count : Items → ℕ
+item_count no_items = 0
+item_count (item j js) = suc (item_count js)
+
+abbrev pub too_many : Fault
+too_many = record { part = codes ".evaluations"; member = []; reason = codes "too many (--max-evaluations)" }
+
+-- a list of decisions, that of each item
+abbrev pub AreListed : Decides Evaluation → Json → Several → Reply → Type 0
+AreListed decides j s r =
     (ts : List Text) × AreItems (stops s.semantic) (IsItem decides j) s.items ts
     × Replies statuses.Ok (list_text (joined ts)) r
 
--- the document's evaluations are decided, as far as it says any
-abbrev pub AreEvaluated : Decides Evaluation → Json → Reply → Type 0
-AreEvaluated decides j r = AreDecided decides j (several_said j) r
+-- that; or where there are too many items, 413, and none is decided
+abbrev pub AreListedUnless : Bool → Decides Evaluation → Json → Several → Reply → Type 0
+AreListedUnless true decides j s r = IsFault statuses.TooLarge too_many r
+AreListedUnless false decides j s r = AreListed decides j s r
+
+-- a list of decisions, where several are asked, and no more than so many; without a list, that of the one that is asked
+abbrev pub AreDecided : ℕ → Decides Evaluation → Json → Said (Option Several) → Reply → Type 0
+AreDecided most decides j (Err f) r = IsFault statuses.BadRequest f r
+AreDecided most decides j (Ok None) r = IsDecided decides (evaluation_of keys.Evaluations j None) r
+AreDecided most decides j (Ok (Some s)) r = AreListedUnless (nat_lt most (item_count s.items)) decides j s r
+
+-- the document's evaluations are decided, as far as it says any, and no more than so many
+abbrev pub AreEvaluated : ℕ → Decides Evaluation → Json → Reply → Type 0
+AreEvaluated most decides j r = AreDecided most decides j (several_said j) r

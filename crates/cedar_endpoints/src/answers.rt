@@ -18,6 +18,8 @@ pub enum Status {
     BadRequest,
     /// 404: nothing is there.
     NotFound,
+    /// 413: more is asked or brought than a request may.
+    TooLarge,
     /// 405: there is `POST` alone.
     PostOnly,
     /// 405: there are `GET` and `HEAD` alone.
@@ -54,6 +56,7 @@ fn code_of(status: Status) -> StatusCode
         Status::Ok => StatusCode::OK,
         Status::BadRequest => StatusCode::BAD_REQUEST,
         Status::NotFound => StatusCode::NOT_FOUND,
+        Status::TooLarge => StatusCode::PAYLOAD_TOO_LARGE,
         Status::PostOnly => StatusCode::METHOD_NOT_ALLOWED,
         Status::GetOnly => StatusCode::METHOD_NOT_ALLOWED,
         Status::PutOnly => StatusCode::METHOD_NOT_ALLOWED,
@@ -100,6 +103,7 @@ fn add_allowed(status: Status, response: &mut Response) -> Result<(), AllocError
         Status::Ok => Ok(()),
         Status::BadRequest => Ok(()),
         Status::NotFound => Ok(()),
+        Status::TooLarge => Ok(()),
         Status::PostOnly => response.add_header(ALLOW, HeaderValue::from_static("POST")),
         Status::GetOnly => add_shown(response),
         Status::PutOnly => response.add_header(ALLOW, HeaderValue::from_static("PUT")),

@@ -46,5 +46,6 @@ fn respond_with(alloc: Global, outcome: &Outcome) -> Result<Reply, AllocError>
             context,
         } => plain(alloc, context.as_str()),
         Outcome::Refused { error } => refused(alloc, Status::BadRequest, error.as_str()),
+        Outcome::TooLarge { error } => refused(alloc, Status::TooLarge, error.as_str()),
     }
 }

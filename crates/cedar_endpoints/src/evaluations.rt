@@ -1,15 +1,17 @@
-#![tactic(auto, using(crate::proofs::Texts::texts))]
+#![tactic(auto, using(crate::proofs::Texts::texts, crate::proofs::Counted::counts))]
 //! Decisions of one evaluation, and of several.
 ghost use Rattle.std.specs.Prelude.{◌≡◌, ◌∷◌, [], ◌++◌, Ok, Some, IfOk, OnOk, map, option_map, string_bytes};
 ghost use Rattle.json.specs.Value.{value_view, items_view};
 ghost use Rattle.cedar_endpoints.specs.Asked.{told, evaluation_view, evaluation_of, fault_view};
 ghost use Rattle.cedar_endpoints.specs.Replies.{decision_text, error_text, fault_json};
 ghost use Rattle.cedar_endpoints.specs.Several.{IsDecided, IsDeniedFor, IsItemOf, IsItemSaid, IsItem, AreItems};
-ghost use Rattle.cedar_endpoints.specs.Several.{stops, several_view, joined, list_text, AreDecided, AreEvaluated};
+ghost use Rattle.cedar_endpoints.specs.Several.{stops, several_view, joined, list_text, too_many};
+ghost use Rattle.cedar_endpoints.specs.Several.{AreListed, AreListedUnless, AreDecided, AreEvaluated};
 ghost use Rattle.cedar_endpoints.specs.declared.asked.Keys.TheVariants as keys;
 
 use crate::answers::Status;
 use crate::asked::{Evaluation, Fault, Keys, evaluation_of};
+use crate::bounds::are_more;
 use crate::decider::Decider;
 use crate::replies::{Outcome, Reply, decision_text, error_text, fault_json, faulty, reply_of};
 use crate::semantics::stops;
@@ -42,16 +44,18 @@ fn decide<D: Decider>(
     reply_of(alloc, &outcome)
 }
 
-/// The decisions of the document's list; without one, that of the evaluation that it is. Refuses only if out of memory.
+/// The decisions of the document's list, or 413 where it has more than so many items; without a list, that of the
+/// evaluation that it is. Refuses only if out of memory.
 pub(crate) fn evaluate_all<D: Decider>(
     alloc: Global,
     decider: &D,
+    most: usize,
     value: &Value<'_>,
 ) -> Result<Reply, AllocError>
-    ensures { IfOk result (AreEvaluated (D.decides decider.now) (value_view value.now)) }
+    ensures { IfOk result (AreEvaluated most (D.decides decider.now) (value_view value.now)) }
 {
     match read_several(value) {
-        Ok(several) => evaluate_listed(alloc, decider, value, several),
+        Ok(several) => evaluate_listed(alloc, decider, most, value, several),
         Err(fault) => decide_said(alloc, decider, Err(fault)),
     }
 }
@@ -59,14 +63,15 @@ pub(crate) fn evaluate_all<D: Decider>(
 fn evaluate_listed<'v, 'a, D: Decider>(
     alloc: Global,
     decider: &D,
+    most: usize,
     value: &'v Value<'a>,
     several: Option<Several<'v, 'a>>,
 ) -> Result<Reply, AllocError>
-    ensures { IfOk result (AreDecided (D.decides decider.now) (value_view value.now)
+    ensures { IfOk result (AreDecided most (D.decides decider.now) (value_view value.now)
         (Ok (option_map several_view several.entry))) }
 {
     match several {
-        Some(several) => evaluate_several(alloc, decider, value, several),
+        Some(several) => evaluate_several(alloc, decider, most, value, several),
         None => decide_said(
             alloc,
             decider,
@@ -75,14 +80,41 @@ fn evaluate_listed<'v, 'a, D: Decider>(
     }
 }
 
+// Nothing is decided where there are too many.
 fn evaluate_several<'v, 'a, D: Decider>(
+    alloc: Global,
+    decider: &D,
+    most: usize,
+    all: &'v Value<'a>,
+    several: Several<'v, 'a>,
+) -> Result<Reply, AllocError>
+    ensures { IfOk result (AreDecided most (D.decides decider.now) (value_view all.now)
+        (Ok (Some (several_view several.entry)))) }
+{
+    if are_more(several.items, most) {
+        faulty(alloc, Status::TooLarge, too_many())
+    } else {
+        evaluate_items(alloc, decider, all, several)
+    }
+}
+
+fn too_many() -> Fault
+    ensures { fault_view result ≡ too_many }
+{
+    Fault {
+        part: ".evaluations",
+        member: "",
+        reason: "too many (--max-evaluations)",
+    }
+}
+
+fn evaluate_items<'v, 'a, D: Decider>(
     alloc: Global,
     decider: &D,
     all: &'v Value<'a>,
     several: Several<'v, 'a>,
 ) -> Result<Reply, AllocError>
-    ensures { IfOk result (AreDecided (D.decides decider.now) (value_view all.now)
-        (Ok (Some (several_view several.entry)))) }
+    ensures { IfOk result (AreListed (D.decides decider.now) (value_view all.now) (several_view several.entry)) }
 {
     let texts = items_of(alloc, decider, all, several)?;
     let items = join_texts(alloc, texts.as_slice())?;
@@ -190,6 +222,7 @@ fn item_outcome(alloc: Global, outcome: &Outcome) -> Result<Answer, AllocError>
             context,
         } => item_text(alloc, *is_allowed, context.as_str()),
         Outcome::Refused { error } => item_denied(alloc, error.as_str()),
+        Outcome::TooLarge { error } => item_denied(alloc, error.as_str()),
     }
 }
 

@@ -2,6 +2,7 @@
 //! asks by the names in it, and how an answer is put into a response.
 //!
 //! - `routes`: which endpoint a method and a path name.
+//! - `bounds`: how much a request may ask and bring.
 //! - `asked`: what a document of AuthZEN's evaluation asks: who, what is to be done, with what, in which context; or
 //!   the first thing that is wrong with it, and where.
 //! - `searches`, `tokens`: what a document asks that searches, and the tokens of pages. `found`: what it is answered.
@@ -23,6 +24,7 @@
 mod answers;
 mod asked;
 mod authorized;
+mod bounds;
 mod decider;
 mod documents;
 mod evaluations;
@@ -42,6 +44,7 @@ mod tokens;
 pub use answers::Status;
 pub use asked::{Evaluation, Fault, Keys, Named, Properties, read_evaluation};
 pub use authorized::authorize;
+pub use bounds::{Bounds, Excess, brings_entities, excess_of};
 pub use decider::Decider;
 pub use lines::answer_lines;
 pub use partials::{Entry, Partial, read_partial};

@@ -1,47 +1,58 @@
 //! Cedar's own requests, a line each.
-ghost use Rattle.std.specs.Prelude.{◌≡◌, ◌++◌, IfOk, OnOk, codes, string_bytes};
+ghost use Rattle.std.specs.Prelude.{◌≡◌, ◌++◌, IfOk, OnOk, OnErr, codes, string_bytes};
 ghost use Rattle.std.specs.Io.Buffered.{reader_remaining};
 ghost use Rattle.std.specs.Io.KnownBytes.{Keeps};
-ghost use Rattle.cedar_endpoints.specs.Lines.{AreAllAnswered, IsLineStep, IsLineAnswer, WritesAnswer};
+ghost use Rattle.cedar_endpoints.specs.Lines.{AreAllAnswered, AreSomeAnswered, IsCutShort, IsLineStep, IsLineAnswer};
+ghost use Rattle.cedar_endpoints.specs.Lines.{WritesAnswer, WritesPart};
 
 use crate::authorized::authorize;
 use crate::decider::Decider;
 use crate::replies::Reply;
+use cedar_writes::write_whole;
 use std::alloc::{AllocError, Global};
 use std::io;
 use std::io::{BufRead, BufReader, ErrorKind, Read, Write};
 
-/// Reads lines to the end, and writes behind each the response to the request that it is, on one line, as
+/// Reads lines to the end, and writes after each the response to the request that it is, on one line, as
 /// `/v1/authorize` answers it; or what is wrong with it, and then no decision. What is written is flushed before more
-/// is waited for. An error is that of the reader or the writer, or that memory ran out.
+/// is waited for. An error is that of the reader or the writer, or that memory ran out: then the lines up to some line
+/// are answered, in their order, and of the answer to the next one at most a first part is written.
 pub fn answer_lines<D: Decider, R: Read + Drop, W: Write>(
     alloc: Global,
     decider: &D,
     reader: &mut BufReader<R, Global>,
     writer: &mut W,
 ) -> io::Result<()>
-    ensures { OnOk result (AreAllAnswered (D.authorizes decider.now) (reader_remaining R.remaining reader.old)
+    ensures all { OnOk result (AreAllAnswered (D.authorizes decider.now) (reader_remaining R.remaining reader.old)
+        (W.contents writer.old) (W.contents writer.new)) }
+    ensures some { OnErr result (AreSomeAnswered (D.authorizes decider.now) (reader_remaining R.remaining reader.old)
         (W.contents writer.old) (W.contents writer.new)) }
 {
     'lines: for _ in 0..u64::MAX {
-        let more = answer_line(alloc, decider, reader, writer)?;
-        if !more {
-            writer.flush()?;
-            return Ok(());
+        match answer_line(alloc, decider, reader, writer) {
+            Ok(more) => {
+                if !more {
+                    return writer.flush();
+                }
+            }
+            Err(error) => return Err(error),
         }
     }
     Err(ErrorKind::TimedOut.into())
 }
 
 // Whether there was a line.
+#[tactic(auto, using(crate::proofs::Lined::kept_cut))]
 fn answer_line<D: Decider, R: Read + Drop, W: Write>(
     alloc: Global,
     decider: &D,
     reader: &mut BufReader<R, Global>,
     writer: &mut W,
 ) -> io::Result<bool>
-    ensures { IfOk result (λ more. IsLineStep (D.authorizes decider.now) (reader_remaining R.remaining reader.old)
+    ensures step { IfOk result (λ more. IsLineStep (D.authorizes decider.now) (reader_remaining R.remaining reader.old)
         (W.contents writer.old) more (reader_remaining R.remaining reader.new) (W.contents writer.new)) }
+    ensures cut { OnErr result (IsCutShort (D.authorizes decider.now) (reader_remaining R.remaining reader.old)
+        (W.contents writer.old) (W.contents writer.new)) }
 {
     flush_before(reader.buffer(), writer)?;
     let mut line: Vec<u8> = Vec::new(alloc);
@@ -49,8 +60,10 @@ fn answer_line<D: Decider, R: Read + Drop, W: Write>(
     if count == 0 {
         return Ok(false);
     }
-    write_answer(alloc, decider, line.as_slice(), writer)?;
-    Ok(true)
+    match write_answer(alloc, decider, line.as_slice(), writer) {
+        Ok(()) => Ok(true),
+        Err(error) => Err(error),
+    }
 }
 
 // What is written goes out, unless a whole line is here already.
@@ -70,11 +83,13 @@ fn write_answer<D: Decider, W: Write>(
     line: &[u8],
     writer: &mut W,
 ) -> io::Result<()>
-    ensures { OnOk result (WritesAnswer (D.authorizes decider.now) line.now (W.contents writer.old)
+    ensures whole { OnOk result (WritesAnswer (D.authorizes decider.now) line.now (W.contents writer.old)
+        (W.contents writer.new)) }
+    ensures part { OnErr result (WritesPart (D.authorizes decider.now) line.now (W.contents writer.old)
         (W.contents writer.new)) }
 {
     match line_answer(alloc, decider, line) {
-        Ok(answer) => writer.write_all(answer.as_bytes()),
+        Ok(answer) => write_whole(writer, answer.as_bytes()),
         Err(AllocError) => Err(ErrorKind::OutOfMemory.into()),
     }
 }

@@ -265,5 +265,6 @@ fn reply_of(alloc: Global, remainder: &Remainder) -> Result<Reply, AllocError>
     match remainder {
         Remainder::Told { response } => plain(alloc, response.as_str()),
         Remainder::Refused { error } => refused(alloc, Status::BadRequest, error.as_str()),
+        Remainder::TooLarge { error } => refused(alloc, Status::TooLarge, error.as_str()),
     }
 }

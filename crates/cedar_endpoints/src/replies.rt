@@ -16,6 +16,8 @@ pub enum Outcome {
     Decided { is_allowed: bool, context: String },
     /// Nothing is decided: the error, as JSON.
     Refused { error: String },
+    /// Nothing is decided, for the request brings more than it may: the error, as JSON.
+    TooLarge { error: String },
 }
 
 /// A page of what is found, or why nothing is.
@@ -40,6 +42,8 @@ pub enum Remainder {
     Told { response: String },
     /// Nothing is told: the error, as JSON.
     Refused { error: String },
+    /// Nothing is told, for the request brings more than it may: the error, as JSON.
+    TooLarge { error: String },
 }
 
 /// Why other policies or entities are not taken.
@@ -58,7 +62,7 @@ pub struct Reply {
     pub body: String,
 }
 
-/// The decision with 200, or why there is none with 400. Refuses only if out of memory.
+/// The decision with 200, or why there is none with 400 or 413. Refuses only if out of memory.
 pub(crate) fn reply_of(alloc: Global, outcome: &Outcome) -> Result<Reply, AllocError>
     ensures { IfOk result (IsOutcome outcome.now) }
 {
@@ -68,6 +72,7 @@ pub(crate) fn reply_of(alloc: Global, outcome: &Outcome) -> Result<Reply, AllocE
             context,
         } => decided(alloc, *is_allowed, context.as_str()),
         Outcome::Refused { error } => refused(alloc, Status::BadRequest, error.as_str()),
+        Outcome::TooLarge { error } => refused(alloc, Status::TooLarge, error.as_str()),
     }
 }
 

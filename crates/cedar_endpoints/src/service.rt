@@ -57,6 +57,8 @@ pub struct Decisions<D: Decider> {
     pub page: usize,
     /// Whether other policies and entities are taken in place of these.
     pub allows_reload: bool,
+    /// How many evaluations one document may ask; more are answered with 413.
+    pub max_evaluations: usize,
 }
 
 /// Each request is answered by what is due to it alone, and the service stays as it is, but where a request replaces
@@ -67,7 +69,7 @@ impl<D: Decider> Service for Decisions<D> {
         (finder_of (D.finds before.decider) (D.version before.decider) (D.count before.decider)
         before.page)
         (reloads_of before.allows_reload (D.refuses before.decider))
-        (option_map string_bytes before.metadata))
+        (option_map string_bytes before.metadata) before.max_evaluations)
         (D.remakes before.decider) D.version request response before after };
 
     fn call(
@@ -104,7 +106,7 @@ fn respond<D: Decider>(
         (finder_of (D.finds service.now.decider) (D.version service.now.decider) (D.count service.now.decider)
         service.now.page)
         (reloads_of service.now.allows_reload (D.refuses service.now.decider))
-        (option_map string_bytes service.now.metadata)) request.now response.new) }
+        (option_map string_bytes service.now.metadata) service.now.max_evaluations) request.now response.new) }
 {
     let reply = reply(service, route, request.body().as_slice())?;
     let version = service.decider.version_text();
@@ -149,7 +151,7 @@ fn reload<D: Decider>(
         (finder_of (D.finds service.old.decider) (D.version service.old.decider) (D.count service.old.decider)
         service.old.page)
         (reloads_of service.old.allows_reload (D.refuses service.old.decider))
-        (option_map string_bytes service.old.metadata))
+        (option_map string_bytes service.old.metadata) service.old.max_evaluations)
         (D.remakes service.old.decider) D.version request.now response.new service.old service.new) }
     ensures err { OnErr result (service.new ≡ service.old) }
 {
@@ -237,7 +239,7 @@ fn reply<D: Decider>(service: &Decisions<D>, route: Route, body: &[u8]) -> Resul
         (finder_of (D.finds service.now.decider) (D.version service.now.decider) (D.count service.now.decider)
         service.now.page)
         (reloads_of service.now.allows_reload (D.refuses service.now.decider))
-        (option_map string_bytes service.now.metadata)) route body.now) }
+        (option_map string_bytes service.now.metadata) service.now.max_evaluations) route body.now) }
 {
     let alloc = service.alloc;
     match route {
@@ -287,7 +289,7 @@ fn ask<D: Decider>(service: &Decisions<D>, asks: Asks, body: &[u8]) -> Result<Re
         (finder_of (D.finds service.now.decider) (D.version service.now.decider) (D.count service.now.decider)
         service.now.page)
         (reloads_of service.now.allows_reload (D.refuses service.now.decider))
-        (option_map string_bytes service.now.metadata)) body.now) body.now) }
+        (option_map string_bytes service.now.metadata) service.now.max_evaluations) body.now) body.now) }
 {
     match str::from_utf8(body) {
         Ok(text) => ask_text(service, asks, text),
@@ -301,7 +303,7 @@ fn ask_text<D: Decider>(service: &Decisions<D>, asks: Asks, text: &str) -> Resul
         (finder_of (D.finds service.now.decider) (D.version service.now.decider) (D.count service.now.decider)
         service.now.page)
         (reloads_of service.now.allows_reload (D.refuses service.now.decider))
-        (option_map string_bytes service.now.metadata)) text.now) text.now) }
+        (option_map string_bytes service.now.metadata) service.now.max_evaluations) text.now) text.now) }
 {
     let alloc = service.alloc;
     let mut scratch = Scratch::new(alloc);
@@ -339,12 +341,12 @@ fn ask_value<D: Decider>(
         (finder_of (D.finds service.now.decider) (D.version service.now.decider) (D.count service.now.decider)
         service.now.page)
         (reloads_of service.now.allows_reload (D.refuses service.now.decider))
-        (option_map string_bytes service.now.metadata)) text.now (value_view value.now)) }
+        (option_map string_bytes service.now.metadata) service.now.max_evaluations) text.now (value_view value.now)) }
 {
     let alloc = service.alloc;
     match asks {
         Asks::One => evaluate_one(alloc, &service.decider, value),
-        Asks::Several => evaluate_all(alloc, &service.decider, value),
+        Asks::Several => evaluate_all(alloc, &service.decider, service.max_evaluations, value),
         Asks::Part(sought) => search_value(alloc, &service.decider, service.page, sought, value),
         Asks::Partly => answer_partly(alloc, &service.decider, text, value),
     }

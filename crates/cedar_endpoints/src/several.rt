@@ -157,8 +157,8 @@ fn some_items<'v, 'a>(items: &'v Vec<Value<'a>>) -> Option<&'v Vec<Value<'a>>>
     }
 }
 
-// The items, where the value is an array.
-fn array<'v, 'a>(value: &'v Value<'a>) -> Option<&'v Vec<Value<'a>>>
+/// The items, where the value is an array.
+pub(crate) fn array<'v, 'a>(value: &'v Value<'a>) -> Option<&'v Vec<Value<'a>>>
     ensures { option_map (λ v. items_view v.now.items) result ≡ as_array (value_view value.now) }
 {
     match value {

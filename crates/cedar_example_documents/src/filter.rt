@@ -6,11 +6,10 @@ use crate::stop::Stop;
 use crate::table::rows_where;
 use cedar_policy_core::authorizer::PartialResponse;
 use cedar_policy_core::filters::Plan;
-use cedar_sql::{Columns, term_to_sql};
+use cedar_sql::{Columns, TableNames, term_to_sql};
 use cedar_sql_plan::sql_of_plan;
 use sqlite::{Alter, Connection};
 use std::alloc::{AllocError, Global};
-use std::rc::RcStr;
 
 /// Which documents each condition is true of, by their numbers.
 #[derive(Drop)]
@@ -36,7 +35,7 @@ pub fn conditions_of(
     alloc: Global,
     plan: &Plan,
     columns: &Columns,
-    names: &[RcStr],
+    names: &TableNames,
 ) -> Result<(String, String), AllocError> {
     let terms = sql_of_plan(alloc, plan, columns)?;
     both(
@@ -50,7 +49,7 @@ pub fn naive_condition_of(
     alloc: Global,
     plan: &Plan,
     columns: &Columns,
-    names: &[RcStr],
+    names: &TableNames,
 ) -> Result<String, AllocError> {
     let term = naive_sql_of_plan(alloc, plan, columns)?;
     term_to_sql(alloc, &term, names)

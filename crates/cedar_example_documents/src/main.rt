@@ -134,7 +134,7 @@ fn print_entities<W: Write>(
         documents,
         entities,
         columns: &columns,
-        names: names.as_slice(),
+        names: &names,
     };
     print_rows(alloc, service, people, &rows, out)
 }

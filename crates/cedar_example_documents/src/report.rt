@@ -8,11 +8,10 @@ use cedar_policy_core::ast::Entity;
 use cedar_policy_core::authorizer::{Authorizer, Decision, ErrorHandling, PartialResponse};
 use cedar_policy_core::entities::Entities;
 use cedar_policy_core::filters::Plan;
-use cedar_sql::Columns;
+use cedar_sql::{Columns, TableNames};
 use sqlite::{Alter, Connection};
 use std::alloc::Global;
 use std::io::Write;
-use std::rc::RcStr;
 
 /// The documents: as they were made, as entities, and how the table holds them.
 #[derive(Drop)]
@@ -23,8 +22,8 @@ pub struct Rows<'a> {
     pub entities: &'a [Entity],
     /// What the columns of the table hold.
     pub columns: &'a Columns,
-    /// The names of the columns.
-    pub names: &'a [RcStr],
+    /// The names of the table and the columns.
+    pub names: &'a TableNames,
 }
 
 /// How many documents were answered how.

@@ -3,7 +3,7 @@ use crate::documents::{About, Document};
 use crate::names::entity_type;
 use crate::stop::Stop;
 use cedar_policy_core::filters::Operand;
-use cedar_sql::{Column, ColumnType, Columns, RowType};
+use cedar_sql::{Column, ColumnType, Columns, RowType, TableNames};
 use sqlite::{Alter, Connection, Error, Row, params};
 use std::alloc::{AllocError, Global};
 use std::rc::RcStr;
@@ -133,13 +133,16 @@ fn set(flags: &mut Vec<bool>, number: i64) {
 
 // ---- columns
 
-/// The names of the columns, by their places.
-pub fn names(alloc: Global) -> Result<Vec<RcStr>, AllocError> {
-    let mut names: Vec<RcStr> = Vec::new(alloc);
+/// The names of the table and of the columns, by their places.
+pub fn names(alloc: Global) -> Result<TableNames, AllocError> {
+    let mut columns: Vec<RcStr> = Vec::new(alloc);
     for name in COLUMN_NAMES {
-        names.push(RcStr::from_str(alloc, name)?)?;
+        columns.push(RcStr::from_str(alloc, name)?)?;
     }
-    Ok(names)
+    Ok(TableNames {
+        table: RcStr::from_str(alloc, "document")?,
+        columns,
+    })
 }
 
 /// Which column holds what of a document. Of its folder and of the users who review it there is none.

@@ -1,5 +1,5 @@
 -- Which lines tell what a response hands out.
-use Rattle.std.specs.Prelude.{◌≡◌, ◌&&◌, ◌==◌, Bool, ℕ, zero, suc, List, [], ◌∷◌, ◌++◌, Option, Some, None, if◌then◌else◌, bytes_eq, codes}
+use Rattle.std.specs.Prelude.{◌≡◌, ◌⊎◌, ◌&&◌, ◌==◌, Bool, ℕ, zero, suc, List, [], ◌∷◌, ◌++◌, Option, Some, None, if◌then◌else◌, bytes_eq, codes}
 use Rattle.std.specs.Str.{IsUtf8}
 use Rattle.json.specs.Json.{Json, Items, no_items, item, document}
 use Rattle.json.specs.Find.{get, as_array}
@@ -83,7 +83,20 @@ pub record AreLines (q : Request (List ℕ)) (p : Response) (lines : Text) : Typ
   pub is_answered : document p.body.items ≡ Some answered
   pub lines_are : lines ≡ exchange_text stamp (uri_path (head_of q).uri) asked answered
 
+-- a body that is no text, or no JSON
+abbrev pub IsNoJson : Text → Type 0
+IsNoJson body = (¬ IsUtf8 body) ⊎ (document body ≡ None)
+
+-- one of the two bodies is none, so that there is nothing to tell
+abbrev pub AreUnread : Request (List ℕ) → Response → Type 0
+AreUnread q p = IsNoJson (body_of q) ⊎ IsNoJson p.body.items
+
 -- ---- for private clauses
+
+-- the lines, if there are any, or else that there can be none
+abbrev pub AreFound : Request (List ℕ) → Response → Option Text → Type 0
+AreFound q p None = AreUnread q p
+AreFound q p (Some lines) = AreLines q p lines
 
 -- the lines of what is asked and of an answer, which is JSON
 abbrev pub AreLinesFor : Text → Text → Json → Text → Text → Type 0
@@ -94,3 +107,12 @@ AreLinesFor stamp path j answer lines =
 abbrev pub AreLinesOf : Text → Text → Text → Text → Text → Type 0
 AreLinesOf stamp path body answer lines =
     (j : Json) × (document body ≡ Some j) × AreLinesFor stamp path j answer lines
+
+-- both, or else that the answer is no JSON, or one of the two
+abbrev pub AreFoundFor : Text → Text → Json → Text → Option Text → Type 0
+AreFoundFor stamp path j answer None = IsNoJson answer
+AreFoundFor stamp path j answer (Some lines) = AreLinesFor stamp path j answer lines
+
+abbrev pub AreFoundOf : Text → Text → Text → Text → Option Text → Type 0
+AreFoundOf stamp path body answer None = IsNoJson body ⊎ IsNoJson answer
+AreFoundOf stamp path body answer (Some lines) = AreLinesOf stamp path body answer lines

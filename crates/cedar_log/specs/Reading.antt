@@ -32,7 +32,7 @@ IsAsked line (Some t) = asked_of line ≡ t
 
 -- ---- for private clauses
 
--- why a line was not read
+-- why a text was not read
 abbrev pub IsUnread : Text → Unread → Type 0
 IsUnread text unreads.Syntax = document text ≡ None
 IsUnread text unreads.Memory = ⊤

@@ -5,17 +5,18 @@ ghost use Rattle.json.specs.Find.{get, as_array};
 ghost use Rattle.json.specs.Tree.{HasNumbers};
 ghost use Rattle.json.specs.Value.{value_view};
 ghost use Rattle.cedar_log.specs.Lines.{HaveNumbers, nth, json_text, found_text, stamp_text, decision_line, other_line};
-ghost use Rattle.cedar_log.specs.Exchanges.{hands_out, AreLines, AreLinesFor, AreLinesOf, exchange_text};
+ghost use Rattle.cedar_log.specs.Exchanges.{hands_out, AreFound, AreFoundFor, AreFoundOf, exchange_text};
 ghost use Rattle.cedar_log.specs.Exchanges.{single_text, several_text, listed_text, items_text, item_text};
 
 use crate::lines::{decision_line, other_line, request_text, stamp_text};
 use crate::parts::{nth, within};
+use crate::reading::{Unread, parse_text};
 use crate::stamps::stamp_of;
 use crate::texts::{found_text, value_text};
 use bytes::{Buf, Bytes};
 use http::Request;
 use http_server::Response;
-use json::{Error, Scratch, Value};
+use json::{Scratch, Value};
 use std::alloc::{AllocError, Global};
 
 /// Whether the response hands out what is told.
@@ -25,18 +26,18 @@ pub(crate) fn hands_out(request: &Request<Bytes>, response: &Response) -> bool
     request.method().as_str() == "POST" && response.status.as_u16() == 200
 }
 
-/// The lines of what the request asks and the response hands out. None, where one of the two is no JSON. Refuses only
-/// if out of memory.
+/// The lines of what the request asks and the response hands out. None, where one of the two bodies is no JSON. Refuses
+/// only if out of memory; a response of which the body lies in several pieces would want more.
 pub(crate) fn lines_of(
     alloc: Global,
     request: &Request<Bytes>,
     response: &Response,
 ) -> Result<Option<String>, AllocError>
-    ensures { IfOk result (λ o. IfSome o (λ s. AreLines request.now response.now (string_bytes s))) }
+    ensures { IfOk result (λ o. AreFound request.now response.now (option_map string_bytes o)) }
 {
     match whole_body(response) {
         Some(answer) => stamped_lines(alloc, request, response, answer),
-        None => Ok(None),
+        None => Err(AllocError),
     }
 }
 
@@ -59,7 +60,7 @@ fn stamped_lines(
     answer: &[u8],
 ) -> Result<Option<String>, AllocError>
     requires { answer.now ≡ response.now.body.items }
-    ensures { IfOk result (λ o. IfSome o (λ s. AreLines request.now response.now (string_bytes s))) }
+    ensures { IfOk result (λ o. AreFound request.now response.now (option_map string_bytes o)) }
 {
     let stamp = stamp_of(alloc, response)?;
     read_body(
@@ -79,8 +80,8 @@ pub fn request_line(
     request: &[u8],
     answer: &str,
 ) -> Result<Option<String>, AllocError>
-    ensures { IfOk result (λ o. IfSome o (λ s. AreLinesOf (stamp_text (Some version.now) None)
-        (codes "/v1/authorize") request.now answer.now (string_bytes s))) }
+    ensures { IfOk result (λ o. AreFoundOf (stamp_text (Some version.now) None) (codes "/v1/authorize")
+        request.now answer.now (option_map string_bytes o)) }
 {
     let stamp = stamp_text(alloc, Some(version), None)?;
     read_body(
@@ -101,8 +102,8 @@ fn read_body(
     body: &[u8],
     answer: &[u8],
 ) -> Result<Option<String>, AllocError>
-    ensures { IfOk result (λ o. IfSome o (λ s.
-        AreLinesOf stamp.now path.now body.now answer.now (string_bytes s))) }
+    ensures { IfOk result (λ o.
+        AreFoundOf stamp.now path.now body.now answer.now (option_map string_bytes o)) }
 {
     match str::from_utf8(body) {
         Ok(body) => read_asked(alloc, stamp, path, body, answer),
@@ -117,13 +118,14 @@ fn read_asked(
     body: &str,
     answer: &[u8],
 ) -> Result<Option<String>, AllocError>
-    ensures { IfOk result (λ o. IfSome o (λ s.
-        AreLinesOf stamp.now path.now body.now answer.now (string_bytes s))) }
+    ensures { IfOk result (λ o.
+        AreFoundOf stamp.now path.now body.now answer.now (option_map string_bytes o)) }
 {
     let mut scratch = Scratch::new(alloc);
-    match Value::parse(alloc, body, &mut scratch) {
+    match parse_text(alloc, body, &mut scratch) {
         Ok(asked) => read_answer(alloc, stamp, path, &asked, answer),
-        Err(error) => unread(error),
+        Err(Unread::Syntax) => Ok(None),
+        Err(Unread::Memory) => Err(AllocError),
     }
 }
 
@@ -135,8 +137,8 @@ fn read_answer(
     answer: &[u8],
 ) -> Result<Option<String>, AllocError>
     requires { HasNumbers (value_view asked.now) }
-    ensures { IfOk result (λ o. IfSome o (λ s.
-        AreLinesFor stamp.now path.now (value_view asked.now) answer.now (string_bytes s))) }
+    ensures { IfOk result (λ o.
+        AreFoundFor stamp.now path.now (value_view asked.now) answer.now (option_map string_bytes o)) }
 {
     match str::from_utf8(answer) {
         Ok(answer) => read_answered(alloc, stamp, path, asked, answer),
@@ -152,24 +154,14 @@ fn read_answered(
     answer: &str,
 ) -> Result<Option<String>, AllocError>
     requires { HasNumbers (value_view asked.now) }
-    ensures { IfOk result (λ o. IfSome o (λ s.
-        AreLinesFor stamp.now path.now (value_view asked.now) answer.now (string_bytes s))) }
+    ensures { IfOk result (λ o.
+        AreFoundFor stamp.now path.now (value_view asked.now) answer.now (option_map string_bytes o)) }
 {
     let mut scratch = Scratch::new(alloc);
-    match Value::parse(alloc, answer, &mut scratch) {
+    match parse_text(alloc, answer, &mut scratch) {
         Ok(answered) => tell(alloc, stamp, path, asked, &answered),
-        Err(error) => unread(error),
-    }
-}
-
-fn unread(error: Error) -> Result<Option<String>, AllocError>
-    ensures { IfOk result (λ o. o ≡ None) }
-{
-    match error {
-        Error::Invalid => Ok(None),
-        Error::TooLong => Ok(None),
-        Error::DuplicateKey => Ok(None),
-        Error::OutOfMemory => Err(AllocError),
+        Err(Unread::Syntax) => Ok(None),
+        Err(Unread::Memory) => Err(AllocError),
     }
 }
 
@@ -182,7 +174,7 @@ fn tell(
 ) -> Result<Option<String>, AllocError>
     requires asked { HasNumbers (value_view asked.now) }
     requires answered { HasNumbers (value_view answered.now) }
-    ensures { IfOk result (λ o. IfSome o (λ s. string_bytes s ≡
+    ensures { IfOk result (λ o. option_map string_bytes o ≡ Some (
         exchange_text stamp.now path.now (value_view asked.now) (value_view answered.now))) }
 {
     let lines = exchange_text(alloc, stamp, path, asked, answered)?;

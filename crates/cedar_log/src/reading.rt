@@ -13,7 +13,7 @@ use crate::texts::value_text;
 use json::{Error, Scratch, Value};
 use std::alloc::{AllocError, Global};
 
-// Why a line was not read.
+// Why a text was not read.
 #[derive(Clone, Copy)]
 pub(crate) enum Unread {
     // It is no JSON, or nests deeper than 128 levels.
@@ -28,23 +28,24 @@ pub fn logged_request(alloc: Global, line: &str) -> Result<Option<String>, Alloc
     ensures { IfOk result (λ o. IsAsked line.now (option_map string_bytes o)) }
 {
     let mut scratch = Scratch::new(alloc);
-    match parse_line(alloc, line, &mut scratch) {
+    match parse_text(alloc, line, &mut scratch) {
         Ok(value) => request_of(alloc, &value),
         Err(Unread::Syntax) => Ok(None),
         Err(Unread::Memory) => Err(AllocError),
     }
 }
 
-fn parse_line<'a>(
+/// The text as JSON. Refuses one that is none, or if out of memory.
+pub(crate) fn parse_text<'a>(
     alloc: Global,
-    line: &'a str,
+    text: &'a str,
     scratch: &'a mut Scratch,
 ) -> Result<Value<'a>, Unread>
-    ensures read { IfOk result (λ v. document line.now ≡ Some (value_view v)) }
+    ensures read { IfOk result (λ v. document text.now ≡ Some (value_view v)) }
     ensures numbers { IfOk result (λ v. HasNumbers (value_view v)) }
-    ensures unread { IfErr result (IsUnread line.now) }
+    ensures unread { IfErr result (IsUnread text.now) }
 {
-    match Value::parse(alloc, line, scratch) {
+    match Value::parse(alloc, text, scratch) {
         Ok(value) => Ok(value),
         Err(Error::Invalid) => Err(Unread::Syntax),
         Err(Error::TooLong) => Err(Unread::Syntax),

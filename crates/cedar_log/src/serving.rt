@@ -7,15 +7,16 @@ ghost use Rattle.http_server.specs.History.{IsDone, IsServed};
 ghost use Rattle.cedar_log.specs.Logs.{AreLogged};
 
 use crate::logged::Logged;
+use crate::sinks::Sink;
 use http_server::{Connection, Service, serve};
 use std::io;
 use std::io::{Read, Write};
 
 /// Reads, answers and writes until the connection is done. Each request is answered as by the service without a log, once
-/// the lines of the decisions in the answer stand in the log; where they can't be written, by 500 and no decision. Behind
-/// what the log had stand the lines of what was handed out, in the order of the requests. What was written is these
-/// answers. An error is that of the reader or the writer.
-pub fn serve_logged<S: Service + Drop, L: Write + Drop, R: Read, W: Write>(
+/// the lines of the decisions in the answer stand in the log; where they can't, by 500 and no decision. After what the log
+/// had stand the lines of what was handed out, in the order of the requests, and at most a first part of lines that could
+/// not be appended whole. What was written is these answers. An error is that of the reader or the writer.
+pub fn serve_logged<S: Service + Drop, L: Sink, R: Read, W: Write>(
     service: &mut Logged<S, L>,
     connection: &mut Connection,
     reader: &mut R,

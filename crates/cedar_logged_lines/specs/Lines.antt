@@ -1,6 +1,7 @@
 -- Cedar's own requests, a line each, with a log.
-use Rattle.std.specs.Prelude.{◌≡◌, Bool, true, false, List, [], ◌∷◌, ◌++◌, Some, None, codes, string_bytes}
+use Rattle.std.specs.Prelude.{◌≡◌, ◌⊎◌, Bool, true, false, List, [], ◌∷◌, ◌++◌, Some, None, codes, string_bytes}
 use Rattle.std.specs.Io.KnownBytes.{Appends, Keeps, IsAtEnd}
+use Rattle.cedar_writes.specs.Parts.{AppendsPart}
 use Rattle.cedar_endpoints.specs.declared.answers.Status.{Status}
 use Rattle.cedar_endpoints.specs.declared.answers.Status.TheVariants as statuses
 use Rattle.cedar_endpoints.specs.declared.replies.Reply.{Reply}
@@ -18,6 +19,7 @@ IsToldBy statuses.Ok version line body told =
     AreLinesOf (stamp_text (Some version) None) (codes "/v1/authorize") line body told
 IsToldBy statuses.BadRequest version line body told = told ≡ []
 IsToldBy statuses.NotFound version line body told = told ≡ []
+IsToldBy statuses.TooLarge version line body told = told ≡ []
 IsToldBy statuses.PostOnly version line body told = told ≡ []
 IsToldBy statuses.GetOnly version line body told = told ≡ []
 IsToldBy statuses.PutOnly version line body told = told ≡ []
@@ -50,6 +52,31 @@ pub record AreAllLogged (authorizes : Decides Text) (version : Text) (reader wri
   pub is_end : IsAtEnd at_end
   pub kept : Keeps held last
 
+-- What is told is not appended whole, but at most a first part of it, and nothing of the answer is written; or it is, and
+-- at most a first part of the answer is written.
+pub data IsHandedInPart (told answer : Text) (log log_last writer last : Known) : Type 0 where
+  told_in_part : AppendsPart log log_last told → Keeps writer last → IsHandedInPart told answer log log_last writer last
+  answered_in_part : Appends log log_last told → AppendsPart writer last answer
+      → IsHandedInPart told answer log log_last writer last
+
+-- of the next line nothing is told and nothing of its answer written, or a part of that
+pub data IsCutShort (authorizes : Decides Text) (version : Text) (reader writer last log log_last : Known) : Type 0 where
+  nothing_more : Keeps writer last → log_last ≡ log → IsCutShort authorizes version reader writer last log log_last
+  handed_in_part : {t : Known} {line answer told : Text} → TakesLine reader t line
+      → IsAnswerTo authorizes version line answer told → IsHandedInPart told answer log log_last writer last
+      → IsCutShort authorizes version reader writer last log log_last
+
+-- so it is with the lines up to some line, and of the next one a part at most is told and answered
+pub record AreSomeLogged (authorizes : Decides Text) (version : Text) (reader writer last log log_last : Known) : Type 0 where
+  pub lines : List Text
+  pub answers : List Text
+  pub told : Text
+  pub left : Known
+  pub held : Known
+  pub kept : Known
+  pub logged : AreLinesLogged authorizes version reader writer log lines answers told left held kept
+  pub cut : IsCutShort authorizes version left held last kept log_last
+
 -- ---- for private clauses
 
 -- one line is taken, told and answered; or it is the end, and nothing is written
@@ -69,3 +96,9 @@ WritesAnswer authorizes version line k m w v =
 abbrev pub IsTextOf : Decides Text → Text → Text → answers.Answer → Type 0
 IsTextOf authorizes version line a =
     IsAnswerTo authorizes version line (string_bytes a.answer) (string_bytes a.told)
+
+-- nothing is told and nothing is written, or a part of what is due
+abbrev pub WritesPart : Decides Text → Text → Text → Known → Known → Known → Known → Type 0
+WritesPart authorizes version line k m w v =
+    (Keeps w v × (m ≡ k)) ⊎ ((answer : Text) × (told : Text) × IsAnswerTo authorizes version line answer told
+    × IsHandedInPart told answer k m w v)

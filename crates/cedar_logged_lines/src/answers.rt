@@ -44,6 +44,7 @@ fn told_of(alloc: Global, version: &str, line: &[u8], reply: &Reply) -> io::Resu
         Status::Ok => told_line(alloc, version, line, reply.body.as_str()),
         Status::BadRequest => Ok(String::new(alloc)),
         Status::NotFound => Ok(String::new(alloc)),
+        Status::TooLarge => Ok(String::new(alloc)),
         Status::PostOnly => Ok(String::new(alloc)),
         Status::GetOnly => Ok(String::new(alloc)),
         Status::PutOnly => Ok(String::new(alloc)),

@@ -5,9 +5,10 @@
 //! - `answers`: the answer to one line, and what is told of it.
 //!
 //! The promise (`specs/Lines`): the lines that are read are answered as without a log, in their order and up to the end,
-//! and nothing else is written. Behind what the log had stands, in the same order, the line of each request that was
-//! decided, with its answer; of what is refused nothing is told. Where something can't be written to the log whole, the
-//! answer is not written, and neither is any behind it.
+//! and nothing else is written. After what the log had stands, in the same order, the line of each request that was
+//! decided, with its answer; of what is refused nothing is told. Where it ends in an error the same is so of the lines up
+//! to some line; of the next one at most a first part of its line stands in the log, and nothing of its answer is
+//! written, or its line stands there whole and at most a first part of its answer is written.
 #![tactic(auto)]
 
 mod answers;

@@ -1,5 +1,6 @@
 pub mod Naming
 pub mod Keeping
+pub mod Sharing
 pub mod Backs
 pub mod PlacedTerms
 pub mod Unlinked

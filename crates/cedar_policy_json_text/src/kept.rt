@@ -1,18 +1,17 @@
 #![tactic(auto, using(crate::proofs::Keeping::keeping))]
 //! Whether policies are kept.
 ghost use Rattle.std.specs.Prelude.{◌≡◌, [], ◌∷◌, ◌++◌, map, length, option_copied, OnOk, IfOk};
-ghost use Rattle.cedar_model.specs.Outcomes.{text_eq};
-ghost use Rattle.cedar_layers.specs.Policies.{policy_view, policy_id_text};
+ghost use Rattle.cedar_layers.specs.Policies.{policy_view};
 ghost use Rattle.cedar_layers.specs.PolicySets.{policies_view};
 ghost use Rattle.cedar_policy_json_text.specs.Kept as kept;
 ghost use Rattle.cedar_policy_json_text.specs.Placed.{placed_view};
 ghost use Rattle.cedar_unsatisfiable.specs.Alike.{say_the_same};
 
+use crate::names::goes_by;
 use crate::placing::placed_policy;
-use cedar_layers::policies::{Policy, PolicyID, PolicySet};
+use cedar_layers::policies::{Policy, PolicySet};
 use cedar_unsatisfiable::say_the_same;
 use std::alloc::{AllocError, Global};
-use std::rc::RcStr;
 
 /// The policies of the set, in order.
 pub(crate) fn policies_of(alloc: Global, policies: &PolicySet) -> Result<Vec<&Policy>, AllocError>
@@ -76,12 +75,12 @@ fn are_as_many_kept(
     Ok(true)
 }
 
-/// Whether the second policy says what the first says with the entities in its slots, and goes by its id.
+/// Whether the second policy says what the first says with the entities in its slots, and is called as that is.
 pub(crate) fn is_kept(alloc: Global, policy: &Policy, read: &Policy) -> Result<bool, AllocError>
     ensures { IfOk result (λ b. b ≡ kept.is_kept (policy_view policy.now) (policy_view read.now)) }
 {
     if says_the_same(alloc, policy, read)? {
-        is_called(alloc, policy.id(), read)
+        goes_by(alloc, policy, read)
     } else {
         Ok(false)
     }
@@ -94,28 +93,6 @@ fn says_the_same(alloc: Global, policy: &Policy, read: &Policy) -> Result<bool, 
     let placed = placed_policy(alloc, policy)?;
     let same = say_the_same(&placed, read);
     drop(placed);
-    Ok(same)
-}
-
-fn is_called(alloc: Global, id: &PolicyID, policy: &Policy) -> Result<bool, AllocError>
-    ensures { IfOk result (λ b. b ≡ kept.is_called (policy_id_text id.now) (policy_view policy.now)) }
-{
-    match annotated_id(policy) {
-        Some(name) => if is_text(alloc, id, name)? {
-            Ok(true)
-        } else {
-            Ok(id == policy.id())
-        },
-        None => Ok(id == policy.id()),
-    }
-}
-
-fn is_text(alloc: Global, id: &PolicyID, text: &str) -> Result<bool, AllocError>
-    ensures { IfOk result (λ b. b ≡ text_eq (policy_id_text id.now) text.now) }
-{
-    let other = PolicyID::from_string(RcStr::from_str(alloc, text)?);
-    let same = *id == other;
-    drop(other);
     Ok(same)
 }
 

@@ -5,7 +5,7 @@ ghost use Rattle.cedar_functions.specs.Functions.{knowledge};
 ghost use Rattle.cedar_layers.specs.Policies.{policy_view};
 ghost use Rattle.cedar_layers.specs.PolicySets.{policies_view};
 ghost use Rattle.cedar_policy_set_reader.specs.PolicySets.{set_view};
-ghost use Rattle.cedar_policy_json_text.specs.Kept.{ReadsBackIf, IsOwn, are_kept, are_all_kept, parsed_view};
+ghost use Rattle.cedar_policy_json_text.specs.Kept.{ReadsBackIf, IsOfText, are_kept, are_all_kept, parsed_view};
 
 use crate::errors::PolicyTextError;
 use crate::kept::{are_kept, each_of, is_kept, policies_of};
@@ -88,7 +88,7 @@ pub(crate) fn no_text(
     functions: &Functions,
     limit: usize,
 ) -> PolicyTextError
-    ensures { IsOwn result }
+    ensures { IsOfText result }
 {
     match lost_id(alloc, set, functions, limit) {
         Ok(id) => PolicyTextError::NoText { id },
@@ -104,13 +104,13 @@ fn lost_id(
 ) -> Result<PolicyID, AllocError> {
     let mut number: usize = 0;
     'policies: for policy in set.policies.policies() {
-        if is_lost(alloc, policy, number, functions, limit)? {
+        if is_lost(alloc, "staticPolicies", policy, number, functions, limit)? {
             return policy.id().clone();
         }
         number = number.saturating_add(1);
     }
     'templates: for template in set.templates.as_slice() {
-        if is_lost(alloc, template, number, functions, limit)? {
+        if is_lost(alloc, "templates", template, number, functions, limit)? {
             return template.id().clone();
         }
         number = number.saturating_add(1);
@@ -120,12 +120,13 @@ fn lost_id(
 
 fn is_lost(
     alloc: Global,
+    part: &str,
     policy: &Policy,
     number: usize,
     functions: &Functions,
     limit: usize,
 ) -> Result<bool, AllocError> {
-    match policy_text(alloc, policy, number) {
+    match policy_text(alloc, part, policy, number) {
         Ok(text) => is_text_lost(alloc, policy, &text, functions, limit),
         Err(error) => {
             drop(error);

@@ -1,13 +1,15 @@
 #![tactic(auto, using(crate::proofs::Backs::backs))]
 //! Texts of JSON texts.
-ghost use Rattle.std.specs.Prelude.{OnOk, IfOk, IfErr, string_bytes};
+ghost use Rattle.std.specs.Prelude.{◌≡◌, None, OnOk, IfOk, IfErr, string_bytes};
 ghost use Rattle.cedar_functions.specs.Functions.{knowledge};
 ghost use Rattle.cedar_policy_set_reader.specs.PolicySets.{set_view};
-ghost use Rattle.cedar_policy_json_text.specs.Kept.{IsTextOf, IsDecidingTextOf, IsUntold, ReadsBack, IsOwn};
+ghost use Rattle.cedar_policy_json_text.specs.Kept.{IsTextOf, IsDecidingTextOf, IsUntold, ReadsBack, IsOwn, IsOfText};
+ghost use Rattle.cedar_policy_json_text.specs.Names.{IsShared, first_shared};
 ghost use Rattle.cedar_policy_json_text.specs.Placed.{without_linked};
 
 use crate::errors::PolicyTextError;
 use crate::linked::without_linked_templates;
+use crate::names::check_names;
 use crate::reading_back::{no_text, read_back};
 use crate::writing::text_of;
 use cedar_functions::Functions;
@@ -17,9 +19,10 @@ use std::alloc::{AllocError, Global};
 
 /// The policies that the JSON text says, as Cedar's text: it is read as these policies and templates, in their order,
 /// with calls of these functions and at most so many levels. The policies of links stand behind the static ones, with
-/// their entities in place of slots. A policy goes by its id there: by its annotation `id` or, where it has none, by its
-/// place, as `policy0`. Refuses where the JSON can't be read (`Unread`), where a policy has no such text (`NoText`) or
-/// another annotation `id` (`AnotherName`), or out of memory.
+/// their entities in place of slots. A policy is called by its id there, and one whose id is its place, as `policy0`, by
+/// its annotation `id` if it has one. Refuses where the JSON can't be read (`Unread`); where the annotation `id` of a
+/// policy or template is the id or the name of another (`SharedName`), or is not its id, which is not its place either
+/// (`AnotherName`); where a policy has no such text (`NoText`); or out of memory.
 pub fn policies_to_text(
     alloc: Global,
     json: &str,
@@ -70,13 +73,34 @@ pub fn deciding_set_to_text(
     functions: &Functions,
     limit: usize,
 ) -> Result<String, PolicyTextError>
+    ensures apart { OnOk result (first_shared (set_view set) ≡ None) }
     ensures back { IfOk result (λ t. ReadsBack (knowledge functions.now) limit (without_linked (set_view set))
         (string_bytes t)) }
+    ensures shared { IfErr result (IsShared (set_view set)) }
     ensures own { IfErr result IsOwn }
+{
+    match check_names(alloc, &set) {
+        Ok(()) => deciding_text(alloc, set, functions, limit),
+        Err(error) => {
+            drop(set);
+            Err(error)
+        }
+    }
+}
+
+fn deciding_text(
+    alloc: Global,
+    set: ReadPolicies,
+    functions: &Functions,
+    limit: usize,
+) -> Result<String, PolicyTextError>
+    ensures back { IfOk result (λ t. ReadsBack (knowledge functions.now) limit (without_linked (set_view set))
+        (string_bytes t)) }
+    ensures no_name { IfErr result IsOfText }
 {
     match without_linked_templates(alloc, set) {
         Ok(set) => {
-            let text = set_to_text(alloc, &set, functions, limit);
+            let text = text_of_set(alloc, &set, functions, limit);
             drop(set);
             text
         }
@@ -85,15 +109,33 @@ pub fn deciding_set_to_text(
 }
 
 /// The policies and the templates of the set as Cedar's text, which is read as these, as `policies_to_text` says. Refuses
-/// where a policy has no such text (`NoText`) or another annotation `id` (`AnotherName`), or out of memory.
+/// where the annotation `id` of a policy or template is the id or the name of another (`SharedName`), or is not its id,
+/// which is not its place either (`AnotherName`); where a policy has no such text (`NoText`); or out of memory.
 pub fn set_to_text(
     alloc: Global,
     set: &ReadPolicies,
     functions: &Functions,
     limit: usize,
 ) -> Result<String, PolicyTextError>
+    ensures apart { OnOk result (first_shared (set_view set.now) ≡ None) }
     ensures back { IfOk result (λ t. ReadsBack (knowledge functions.now) limit (set_view set.now) (string_bytes t)) }
+    ensures shared { IfErr result (IsShared (set_view set.now)) }
     ensures own { IfErr result IsOwn }
+{
+    match check_names(alloc, set) {
+        Ok(()) => text_of_set(alloc, set, functions, limit),
+        Err(error) => Err(error),
+    }
+}
+
+fn text_of_set(
+    alloc: Global,
+    set: &ReadPolicies,
+    functions: &Functions,
+    limit: usize,
+) -> Result<String, PolicyTextError>
+    ensures back { IfOk result (λ t. ReadsBack (knowledge functions.now) limit (set_view set.now) (string_bytes t)) }
+    ensures no_name { IfErr result IsOfText }
 {
     match text_of(alloc, set) {
         Ok(text) => checked(alloc, set, text, functions, limit),
@@ -110,7 +152,7 @@ fn checked(
     limit: usize,
 ) -> Result<String, PolicyTextError>
     ensures back { IfOk result (λ t. ReadsBack (knowledge functions.now) limit (set_view set.now) (string_bytes t)) }
-    ensures own { IfErr result IsOwn }
+    ensures no_name { IfErr result IsOfText }
 {
     match read_back(alloc, set, &text, functions, limit) {
         Ok(true) => Ok(text),

@@ -2,3 +2,4 @@ pub mod Visible
 pub mod Metadata
 pub mod Connections
 pub mod Logged
+pub mod Options

@@ -2,6 +2,7 @@
 use crate::logged_lines::log_answers;
 use crate::logging::log_texts;
 use crate::serving::{Stopped, Texts, serve_texts};
+use cedar_log::Flushed;
 use http_server::{Config, State};
 use std::hash::RandomState;
 use std::io;
@@ -36,7 +37,7 @@ pub(crate) fn serve_host<R: Input + AllocGlobal + Print + RandomSource>(
     done(ended)
 }
 
-/// The same as `serve_host`, with this log.
+/// The same as `serve_host`, with this log, which is flushed after each decision.
 pub(crate) fn log_host<R: Input + AllocGlobal + Print + RandomSource, L: Write + Drop>(
     rt: &R,
     config: Config,
@@ -50,7 +51,7 @@ pub(crate) fn log_host<R: Input + AllocGlobal + Print + RandomSource, L: Write +
         keys,
         config,
         texts,
-        log,
+        Flushed { writer: log },
         &mut rt.reader(),
         &mut writer,
     );
@@ -58,7 +59,7 @@ pub(crate) fn log_host<R: Input + AllocGlobal + Print + RandomSource, L: Write +
     done(ended?)
 }
 
-/// Answers lines of standard input, through buffers, with this log.
+/// Answers lines of standard input, through buffers, with this log, which is flushed after each decision.
 pub(crate) fn log_lines_host<R: Input + AllocGlobal + Print, L: Write + Drop>(
     rt: &R,
     texts: Texts<'_>,
@@ -66,6 +67,7 @@ pub(crate) fn log_lines_host<R: Input + AllocGlobal + Print, L: Write + Drop>(
 ) -> Result<(), Stopped> {
     let mut reader = BufReader::new(rt.alloc(), rt.reader())?;
     let mut writer = BufWriter::new(rt.alloc(), io::writer(rt))?;
+    let log = Flushed { writer: log };
     let (log, answered) = log_answers(rt.alloc(), texts, log, &mut reader, &mut writer);
     drop(log);
     answered

@@ -2,11 +2,11 @@
 ghost use Rattle.std.specs.Prelude.{◌≡◌, OnOk};
 ghost use Rattle.std.specs.Io.Buffered.{reader_remaining};
 ghost use Rattle.cedar_service.specs.Decided.{IsAuthorized};
-ghost use Rattle.cedar_service.specs.Loaded.{both_texts, IsLoadedOf, engine_of};
+ghost use Rattle.cedar_service.specs.Loaded.{both_texts, IsLoadedOf, engine_of, loaded_ways};
 ghost use Rattle.cedar_service.specs.Started.{IsNotStarted};
 ghost use Rattle.cedar_service.specs.Ways.{ways_view};
-ghost use Rattle.cedar_endpoints.specs.Lines.{AreAllAnswered};
-ghost use Rattle.cedar_serve.specs.Connections.{AreAnsweredFrom, IfUnstarted};
+ghost use Rattle.cedar_endpoints.specs.Lines.{AreAllAnswered, AreSomeAnswered};
+ghost use Rattle.cedar_serve.specs.Connections.{AreAnsweredFrom, AreSomeAnsweredFrom, IfBroken, IfUnstarted};
 ghost use Rattle.cedar_serve.specs.declared.serving.Stopped.TheVariants as stopped;
 
 use crate::serving::{Stopped, Texts};
@@ -15,9 +15,10 @@ use cedar_service::Loaded;
 use std::alloc::Global;
 use std::io::{BufReader, Read, Write};
 
-/// Reads lines to the end, and writes behind each the response to the request that it is, of the policies over the
+/// Reads lines to the end, and writes after each the response to the request that it is, of the policies over the
 /// entities that the texts say, or what is wrong with it; and nothing else. Where the texts are wrong nothing is read
-/// and nothing written.
+/// and nothing written. Where the reader or the writer fails, the lines up to some line are answered, in their order, and
+/// of the answer to the next one at most a first part is written.
 pub fn answer_texts<R: Read + Drop, W: Write>(
     alloc: Global,
     texts: Texts<'_>,
@@ -27,6 +28,9 @@ pub fn answer_texts<R: Read + Drop, W: Write>(
     ensures answered { OnOk result (AreAnsweredFrom texts.entry.policies.now texts.entry.entities.now
         (ways_view texts.entry.ways) (reader_remaining R.remaining reader.old) (W.contents writer.old)
         (W.contents writer.new)) }
+    ensures broken { IfBroken (AreSomeAnsweredFrom texts.entry.policies.now texts.entry.entities.now
+        (ways_view texts.entry.ways) (reader_remaining R.remaining reader.old) (W.contents writer.old)
+        (W.contents writer.new)) result }
     ensures refused { IfUnstarted (IsNotStarted texts.entry.policies.now texts.entry.entities.now) result }
     ensures unread { IfUnstarted (λ e. reader.new ≡ reader.old) result }
     ensures unwritten { IfUnstarted (λ e. writer.new ≡ writer.old) result }
@@ -47,8 +51,10 @@ fn answer_with<R: Read + Drop, W: Write>(
     reader: &mut BufReader<R, Global>,
     writer: &mut W,
 ) -> Result<(), Stopped>
-    ensures answered { OnOk result (AreAllAnswered (IsAuthorized (engine_of loaded.now))
+    ensures answered { OnOk result (AreAllAnswered (IsAuthorized (engine_of loaded.now) (loaded_ways loaded.now))
         (reader_remaining R.remaining reader.old) (W.contents writer.old) (W.contents writer.new)) }
+    ensures broken { IfBroken (AreSomeAnswered (IsAuthorized (engine_of loaded.now) (loaded_ways loaded.now))
+        (reader_remaining R.remaining reader.old) (W.contents writer.old) (W.contents writer.new)) result }
     ensures started { IfUnstarted (λ e. ⊥) result }
 {
     match answer_lines(alloc, loaded, reader, writer) {

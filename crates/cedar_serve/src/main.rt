@@ -28,13 +28,12 @@ mod types;
 mod visible;
 
 use arguments::{Options, command, options_of, text_of_help};
-use cedar_service::Ways;
 use files::{file_text, file_to_append};
 use hosts::{config, log_host, log_lines_host, serve_host};
 use lines::answer_texts;
 use reasons::refuse_texts;
 use refusal::{Refusal, refuse_with_line};
-use serving::{Stopped, Texts};
+use serving::{Stopped, Texts, texts_of};
 use std::alloc::Global;
 use std::env::Env;
 use std::io::{BufReader, BufWriter, Write};
@@ -52,9 +51,6 @@ pub const REFUSED: u8 = 1;
 pub const NO_TYPE: u8 = 2;
 /// Out of memory.
 pub const OUT_OF_MEMORY: u8 = 3;
-
-/// How many a page of a search has at most, where that is not said.
-pub const PAGE_SIZE: usize = 100;
 
 fn main(rt: HostRuntime) -> ExitCode {
     ExitCode::from(run(&rt))
@@ -134,18 +130,12 @@ fn serve_files<R: Files + Input + AllocGlobal + Print + RandomSource>(
     let action_type = type_said(rt.alloc(), options.action_type)?;
     let policies = file_text(rt, options.policies)?;
     let entities = file_text(rt, options.entities)?;
-    let ways = Ways {
-        properties: options.properties,
-        action_type: action_type.as_str(),
-    };
-    let texts = Texts {
-        policies: policies.as_str(),
-        entities: entities.as_str(),
-        url: options.url,
-        page: options.page_size.unwrap_or(PAGE_SIZE),
-        allows_reload: options.allows_reload,
-        ways,
-    };
+    let texts = texts_of(
+        &options,
+        policies.as_str(),
+        entities.as_str(),
+        action_type.as_str(),
+    );
     let ended = serve_as(rt, &options, texts)?;
     match ended {
         Ok(()) => Ok(()),

@@ -5,11 +5,12 @@ ghost use Rattle.http_server.specs.Connection.{config_of, history};
 ghost use Rattle.http_server.specs.History.{IsDone, new_history};
 ghost use Rattle.cedar_service.specs.Loaded.{both_texts, IsLoadedOf};
 ghost use Rattle.cedar_service.specs.Started.{IsNotStarted};
-ghost use Rattle.cedar_service.specs.Ways.{ways_view};
+ghost use Rattle.cedar_service.specs.Ways.{ways_of, ways_view};
 ghost use Rattle.cedar_serve.specs.Connections.{IsServedBy, IsServedFrom, IfServed, IfUnstarted};
 ghost use Rattle.cedar_serve.specs.Metadata.{metadata_text};
 ghost use Rattle.cedar_serve.specs.declared.serving.Stopped.TheVariants as stopped;
 
+use crate::arguments::Options;
 use crate::metadata::metadata_of;
 use cedar_endpoints::Decisions;
 use cedar_service::{Loaded, NotStarted, Ways, serve_decisions};
@@ -32,8 +33,38 @@ pub struct Texts<'a> {
     pub page: usize,
     /// Whether other policies and entities are taken in place of these.
     pub allows_reload: bool,
-    /// How evaluations are taken.
+    /// How requests are taken.
     pub ways: Ways<'a>,
+}
+
+/// What is served as the options say, over the texts of the files that they name and by the type of actions.
+pub(crate) fn texts_of<'a>(
+    options: &Options<'a>,
+    policies: &'a str,
+    entities: &'a str,
+    action_type: &'a str,
+) -> Texts<'a>
+    ensures policies { result.policies.now ≡ policies.now }
+    ensures entities { result.entities.now ≡ entities.now }
+    ensures url { option_map (λ u. u.now) result.url ≡ option_map (λ u. u.now) options.now.url }
+    ensures page { result.page ≡ options.now.page }
+    ensures reload { result.allows_reload ≡ options.now.allows_reload }
+    ensures ways { ways_view result.ways
+        ≡ ways_of options.now.properties options.now.brought options.now.bounds action_type.now }
+{
+    Texts {
+        policies,
+        entities,
+        url: options.url,
+        page: options.page,
+        allows_reload: options.allows_reload,
+        ways: Ways {
+            properties: options.properties,
+            entities: options.brought,
+            bounds: options.bounds,
+            action_type,
+        },
+    }
 }
 
 /// Why a connection was not served to its end.
@@ -88,10 +119,18 @@ pub(crate) fn service_of(alloc: Global, texts: Texts<'_>) -> Result<Decisions<Lo
         option_map string_bytes s.metadata ≡ option_map metadata_text (option_map (λ u. u.now) texts.entry.url)) }
     ensures page { IfOk result (λ s. s.page ≡ texts.entry.page) }
     ensures reload { IfOk result (λ s. s.allows_reload ≡ texts.entry.allows_reload) }
+    ensures evaluations { IfOk result (λ s. s.max_evaluations ≡ texts.entry.ways.bounds.evaluations) }
     ensures refused { IfErr result (IsNotStarted texts.entry.policies.now texts.entry.entities.now) }
 {
     match Loaded::of_texts(alloc, texts.policies, texts.entities, texts.ways) {
-        Ok(loaded) => with_metadata(alloc, loaded, texts.url, texts.page, texts.allows_reload),
+        Ok(loaded) => with_metadata(
+            alloc,
+            loaded,
+            texts.url,
+            texts.page,
+            texts.allows_reload,
+            texts.ways.bounds.evaluations,
+        ),
         Err(reason) => Err(reason),
     }
 }
@@ -102,12 +141,14 @@ fn with_metadata(
     url: Option<&str>,
     page: usize,
     allows_reload: bool,
+    max_evaluations: usize,
 ) -> Result<Decisions<Loaded>, NotStarted>
     ensures engine { IfOk result (λ s. s.decider ≡ loaded) }
     ensures metadata { IfOk result (λ s.
         option_map string_bytes s.metadata ≡ option_map metadata_text (option_map (λ u. u.now) url.entry)) }
     ensures page { IfOk result (λ s. s.page ≡ page) }
     ensures reload { IfOk result (λ s. s.allows_reload ≡ allows_reload) }
+    ensures evaluations { IfOk result (λ s. s.max_evaluations ≡ max_evaluations) }
     ensures memory { IfErr result (λ e. e ≡ NotStarted.Memory) }
 {
     match metadata_of(alloc, url) {
@@ -117,6 +158,7 @@ fn with_metadata(
             metadata,
             page,
             allows_reload,
+            max_evaluations,
         }),
         Err(AllocError) => {
             drop(loaded);

@@ -40,11 +40,14 @@ use Rattle.cedar_service.specs.declared.engine.Engine.{Engine}
 use Rattle.cedar_service.specs.Levels.{levels}
 use Rattle.cedar_service.specs.Ways.{Ways, wins}
 use Rattle.cedar_service.specs.declared.ways.RequestProperties.{RequestProperties}
+use Rattle.cedar_endpoints.specs.declared.bounds.Bounds.{Bounds}
+use Rattle.cedar_service.specs.declared.ways.RequestEntities.{RequestEntities}
+use Rattle.cedar_service.specs.declared.ways.RequestEntities.TheVariants as allowances
 use Rattle.cedar_service.specs.declared.ways.RequestProperties.TheVariants as claims
 use Rattle.cedar_service.specs.Engines.{entities_of}
 use Rattle.cedar_service.specs.Standard.{standard_extensions, standard_calls}
 use Rattle.cedar_service.specs.Asked.{is_known_part, has_known_context}
-use Rattle.cedar_service.specs.Brought.{AreBrought, IsBroughtOver, IsBroughtBy, IsOver, HasAdded}
+use Rattle.cedar_service.specs.Brought.{AreBrought, IsBroughtFor, IsBroughtBy, IsOver, HasAdded}
 use Rattle.cedar_service.specs.Decided.{setting_of}
 use Rattle.cedar_service.specs.Properties.{Attributes, HasOneMore, IsLaidOver, beside, alone, is_empty, AreLaidUnless, IsWithProperties, IsAskedOver}
 use Rattle.cedar_service.specs.Searched.{opened, question_of}
@@ -221,21 +224,45 @@ are_known : (o : Option Json) (es : List Entity) → AreBrought standard_extensi
 are_known None es is = subst AreKnownEntities (sym is) tt
 are_known (Some j) es is = is.1
 
-brought_known : (s : Entities) (text : Text) (made : Entities)
-    → IsBroughtBy standard_extensions standard_calls s text made → IsKnown s → IsKnown made
-brought_known s text made is h = in_document (document text) is where
+brought_for_known : (c : RequestEntities) (b : Bounds) (s : Entities) (o : Option Json) (made : Entities)
+    → IsBroughtFor c b standard_extensions standard_calls s o made → IsKnown s → IsKnown made
+brought_for_known allowances.None b s o made is h = subst IsKnown (sym is.1) h
+brought_for_known allowances.Allowed b s o made (fit, (es, are, over)) h =
+    brought_over_known s es made over (are_known o es are) h
+
+brought_known : (w : Ways) (s : Entities) (text : Text) (made : Entities)
+    → IsBroughtBy standard_extensions standard_calls w s text made → IsKnown s → IsKnown made
+brought_known w s text made is h = in_document (document text) is where
   in_document : (o : Option Json)
-      → IsSomeAnd o (λ j. HasUniqueKeys j × IsBroughtOver standard_extensions standard_calls s (get (codes "entities") j) made)
+      → IsSomeAnd o (λ j. HasUniqueKeys j
+      × IsBroughtFor w.entities w.bounds standard_extensions standard_calls s (get (codes "entities") j) made)
       → IsKnown made
   in_document None is = absurd is
-  in_document (Some j) (unique, (es, are, over)) =
-      brought_over_known s es made over (are_known (get (codes "entities") j) es are) h
+  in_document (Some j) (unique, is) =
+      brought_for_known w.entities w.bounds s (get (codes "entities") j) made is h
+
+-- where none may be
+
+none_for : (c : RequestEntities) (b : Bounds) (s : Entities) (o : Option Json) (made : Entities) → c ≡ allowances.None
+    → IsBroughtFor c b standard_extensions standard_calls s o made → made ≡ s
+none_for allowances.None b s o made none is = is.1
+none_for allowances.Allowed b s o made none is = absurd (cc)
+
+pub brought_alone : (w : Ways) (s : Entities) (text : Text) (made : Entities) → w.entities ≡ allowances.None
+    → IsBroughtBy standard_extensions standard_calls w s text made → made ≡ s
+brought_alone w s text made none is = in_document (document text) is where
+  in_document : (o : Option Json)
+      → IsSomeAnd o (λ j. HasUniqueKeys j
+      × IsBroughtFor w.entities w.bounds standard_extensions standard_calls s (get (codes "entities") j) made)
+      → made ≡ s
+  in_document None is = absurd is
+  in_document (Some j) (unique, is) = none_for w.entities w.bounds s (get (codes "entities") j) made none is
 
 -- ---- the whole
 
 pub store_known : (e : Engine) (s : Entities) → IsStoreFor e s → IsKnown (entities_of e) → IsKnown s
 store_known e s (with_properties w q is) h = asked_known w (entities_of e) q s is h
-store_known e s (with_brought text is) h = brought_known (entities_of e) text s is h
+store_known e s (with_brought w text is) h = brought_known w (entities_of e) text s is h
 
 known_part : (c : ContextPart) → is_known_part c ≡ true → IsKnownContext c
 known_part absent_context h = absurd (true≢false (sym h))

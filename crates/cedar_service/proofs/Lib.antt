@@ -17,3 +17,5 @@ mod Untold
 mod Over
 mod Without
 mod Laid
+mod Bounded
+mod Taken

@@ -20,11 +20,12 @@ use Rattle.cedar_json_reader.specs.JsonTexts.{IsUnread, SaysSo, IsTextError}
 use Rattle.cedar_json_reader.specs.SaidEntities.{entities_said}
 use Rattle.cedar_service.specs.declared.faults.Refusal.{Refusal}
 use Rattle.cedar_service.specs.declared.faults.Refusal.TheVariants as refusals
-use Rattle.cedar_service.specs.Brought.{IsBroughtOver, IsBroughtBy, IsUnbrought, IsUnbroughtBy, no_document, of_document}
+use Rattle.cedar_service.specs.Brought.{IsBroughtOver, IsBroughtBy, IsBroughtFor, IsUnbroughtBy, IsUnbroughtFor, IsExcess, IsExcessBy, no_document, of_document}
 use Rattle.cedar_service.specs.Brought.{IsBroughtAs, IsUnbroughtAs, none_said, IsOver, HasAdded, IsNotOver, IsOfEntities}
 use Rattle.cedar_service.specs.Documents.{IsReadAs, IsTextFor}
 use Rattle.cedar_service.specs.Faults.{IsToldAs, IsFaultBelow, IsOfJson}
 use Rattle.cedar_service.specs.Levels.{levels}
+use Rattle.cedar_service.specs.Ways.{Ways}
 
 -- what is so of the value that there is is so
 pub some_and : {A : Type 0} (P : A → Type 0) (o : Option A) (a : A) → o ≡ Some a → P a → IsSomeAnd o P
@@ -33,20 +34,27 @@ some_and P o a is h = subst (λ x. IsSomeAnd x P) (sym is) h
 pub of_some : (P : Json → Type 0) (o : Option Json) (i : Json) → o ≡ Some i → IsSomeAnd o (λ k. HasUniqueKeys k × P k) → P i
 of_some P o i same h = (subst (λ x. IsSomeAnd x (λ k. HasUniqueKeys k × P k)) same h).1
 
-module _ (X : world.Extensions) (calls : StoredCalls) (s : Entities) where
+module _ (X : world.Extensions) (calls : StoredCalls) (w : Ways) (s : Entities) where
   pub brought_of_document : (text : Text) (j : Json) (made : Entities) → IsReadAs text j
-      → IsBroughtOver X calls s (get (codes "entities") j) made → IsBroughtBy X calls s text made
+      → IsBroughtFor w.entities w.bounds X calls s (get (codes "entities") j) made → IsBroughtBy X calls w s text made
   brought_of_document text j made is h = some_and _ (document text) j is.is_json (is.unique, h)
 
   pub unbrought_of_document : (text : Text) (j : Json) (t : Text) → IsReadAs text j
-      → IsUnbrought X calls s (get (codes "entities") j) t → IsUnbroughtBy X calls s text t
+      → IsUnbroughtFor w.entities w.bounds X calls s (get (codes "entities") j) t → IsUnbroughtBy X calls w s text t
   unbrought_of_document text j t is h = of_document (some_and _ (document text) j is.is_json h)
 
   pub unread_document : (text : Text) (e : JsonError) → IsUnread text e → (r : Refusal)
-      → IsToldAs (λ _. IsOfJson e) r → IsToldAs (IsFaultBelow (codes "$")) r → IsToldAs (IsUnbroughtBy X calls s text) r
+      → IsToldAs (λ _. IsOfJson e) r → IsToldAs (IsFaultBelow (codes "$")) r
+      → IsToldAs (IsUnbroughtBy X calls w s text) r
   unread_document text e is refusals.Memory of told = tt
   unread_document text e is (refusals.Told t) of told = no_document e is of told
 
+-- too much of the JSON is too much of its text
+pub excess_of_document : (w : Ways) (text : Text) (j : Json) (t : Text) → IsReadAs text j
+    → IsExcess w.entities w.bounds (get (codes "entities") j) t → IsExcessBy w text t
+excess_of_document w text j t is h = some_and _ (document text) j is.is_json h
+
+module _ (X : world.Extensions) (calls : StoredCalls) (s : Entities) where
   -- what a text says of entities, its JSON says
   pub brought_as_json : (text : Text) (j : Json) (made : Entities) → IsTextFor j text → IsBroughtAs X calls s text made
       → IsBroughtOver X calls s (Some j) made

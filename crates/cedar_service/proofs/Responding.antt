@@ -25,6 +25,7 @@ pub refused_as : (P : Text → Type 0) → (r : Refusal) → (o : Outcome) → I
 refused_as P refusals.Memory o h is = absurd is
 refused_as P (refusals.Told t) (outcomes.Decided b context) h is = absurd is
 refused_as P (refusals.Told t) (outcomes.Refused error) h is = subst (λ s. P (string_bytes s)) (sym is) h
+refused_as P (refusals.Told t) (outcomes.TooLarge error) h is = absurd is
 
 -- the response of an authorizer that is configured so, and asked so
 module _ (X : world.Extensions) (calls : StoredCalls) (ps : PolicySet) (s : Entities) (r : Request) where

@@ -32,6 +32,7 @@ pub untold_as : (P : Text → Type 0) → (r : Refusal) → (o : Remainder) → 
 untold_as P refusals.Memory o h is = absurd is
 untold_as P (refusals.Told t) (remainders.Told response) h is = absurd is
 untold_as P (refusals.Told t) (remainders.Refused error) h is = subst (λ s. P (string_bytes s)) (sym is) h
+untold_as P (refusals.Told t) (remainders.TooLarge error) h is = absurd is
 
 -- the same where a text is not taken
 pub unmade_as : (P : Text → Type 0) → (r : Refusal) → (n : NotRemade) → IsToldAs P r → IsSameRefusal r n → IsNotRemade P n

@@ -29,7 +29,9 @@ use Rattle.cedar_endpoints.specs.declared.replies.Outcome.TheVariants as outcome
 use Rattle.cedar_service.specs.declared.engine.Engine.{Engine}
 use Rattle.cedar_service.specs.declared.faults.Refusal.{Refusal}
 use Rattle.cedar_service.specs.declared.faults.Refusal.TheVariants as refusals
-use Rattle.cedar_service.specs.Brought.{IsBroughtBy, IsUnbroughtBy}
+use Rattle.cedar_service.specs.declared.brought.Unbrought.{Unbrought}
+use Rattle.cedar_service.specs.declared.brought.Unbrought.TheVariants as unbroughts
+use Rattle.cedar_service.specs.Brought.{IsBroughtBy, IsUnbroughtBy, IsExcessBy}
 use Rattle.cedar_service.specs.Engines.{policies_of, entities_of}
 use Rattle.cedar_service.specs.Faults.{IsFault}
 use Rattle.cedar_service.specs.Properties.{IsAskedOver, AreUnlaid}
@@ -71,6 +73,7 @@ abbrev pub IsOutcomeOf : Response → Outcome → Type 0
 IsOutcomeOf a (outcomes.Decided b context) =
     (b ≡ is_allow (decision_view a.decision)) × IsResponseText a (string_bytes context)
 IsOutcomeOf a (outcomes.Refused error) = ⊥
+IsOutcomeOf a (outcomes.TooLarge error) = ⊥
 
 -- ---- requests
 
@@ -78,12 +81,27 @@ IsOutcomeOf a (outcomes.Refused error) = ⊥
 abbrev pub IsRefusedAs : (Text → Type 0) → Outcome → Type 0
 IsRefusedAs Is (outcomes.Decided b context) = ⊥
 IsRefusedAs Is (outcomes.Refused error) = Is (string_bytes error)
+IsRefusedAs Is (outcomes.TooLarge error) = ⊥
+
+-- it is refused since the request brings too much, as this is so of what is told
+abbrev pub IsTooLargeAs : (Text → Type 0) → Outcome → Type 0
+IsTooLargeAs Is (outcomes.Decided b context) = ⊥
+IsTooLargeAs Is (outcomes.Refused error) = ⊥
+IsTooLargeAs Is (outcomes.TooLarge error) = Is (string_bytes error)
 
 -- it is refused with what the refusal tells
 abbrev pub IsRefusalOf : Refusal → Outcome → Type 0
 IsRefusalOf refusals.Memory o = ⊥
 IsRefusalOf (refusals.Told t) (outcomes.Decided b context) = ⊥
 IsRefusalOf (refusals.Told t) (outcomes.Refused error) = error ≡ t
+IsRefusalOf (refusals.Told t) (outcomes.TooLarge error) = ⊥
+
+-- the same where no entities are brought; for private clauses
+abbrev pub IsUnbroughtOutcome : Unbrought → Outcome → Type 0
+IsUnbroughtOutcome (unbroughts.Refused r) o = IsRefusalOf r o
+IsUnbroughtOutcome (unbroughts.TooLarge t) (outcomes.Decided b context) = ⊥
+IsUnbroughtOutcome (unbroughts.TooLarge t) (outcomes.Refused error) = ⊥
+IsUnbroughtOutcome (unbroughts.TooLarge t) (outcomes.TooLarge error) = error ≡ t
 
 -- what is answered to a request: a response of the policies over the store; or where an unknown stands in its context,
 -- that
@@ -116,17 +134,18 @@ pub data IsAuthorizedOver (X : world.Extensions) (calls : StoredCalls) (e : Engi
   said : (r : Request) → IsSaid X calls text r → IsAnswered X calls e s r o → IsAuthorizedOver X calls e s text o
   not_said : IsRefusedAs (IsUnsaid X calls text) o → IsAuthorizedOver X calls e s text o
 
--- that, over the entities and those that the text brings; or why it brings none
-pub data IsAuthorizedWith (X : world.Extensions) (calls : StoredCalls) (e : Engine) (text : Text) (o : Outcome)
-    : Type 0 where
-  brought : (s : Entities) → IsBroughtBy X calls (entities_of e) text s → IsAuthorizedOver X calls e s text o
-      → IsAuthorizedWith X calls e text o
-  not_brought : IsRefusedAs (IsUnbroughtBy X calls (entities_of e) text) o → IsAuthorizedWith X calls e text o
+-- that, over the entities and those that the text brings, if it may; or why it brings none, or that it brings too much
+pub data IsAuthorizedWith (X : world.Extensions) (calls : StoredCalls) (e : Engine) (w : Ways) (text : Text)
+    (o : Outcome) : Type 0 where
+  brought : (s : Entities) → IsBroughtBy X calls w (entities_of e) text s → IsAuthorizedOver X calls e s text o
+      → IsAuthorizedWith X calls e w text o
+  not_brought : IsRefusedAs (IsUnbroughtBy X calls w (entities_of e) text) o → IsAuthorizedWith X calls e w text o
+  too_large : IsTooLargeAs (IsExcessBy w text) o → IsAuthorizedWith X calls e w text o
 
 -- ---- with the standard extensions
 
 abbrev pub IsDecided : Engine → Ways → Evaluation → Outcome → Type 0
 IsDecided = IsDecidedWith standard_extensions standard_calls
 
-abbrev pub IsAuthorized : Engine → Text → Outcome → Type 0
+abbrev pub IsAuthorized : Engine → Ways → Text → Outcome → Type 0
 IsAuthorized = IsAuthorizedWith standard_extensions standard_calls

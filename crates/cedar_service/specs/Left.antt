@@ -33,10 +33,13 @@ use Rattle.cedar_endpoints.specs.declared.replies.Remainder.TheVariants as remai
 use Rattle.cedar_service.specs.declared.engine.Engine.{Engine}
 use Rattle.cedar_service.specs.declared.faults.Refusal.{Refusal}
 use Rattle.cedar_service.specs.declared.faults.Refusal.TheVariants as refusals
-use Rattle.cedar_service.specs.Brought.{IsBroughtBy, IsUnbroughtBy}
+use Rattle.cedar_service.specs.declared.brought.Unbrought.{Unbrought}
+use Rattle.cedar_service.specs.declared.brought.Unbrought.TheVariants as unbroughts
+use Rattle.cedar_service.specs.Brought.{IsBroughtBy, IsUnbroughtBy, IsExcessBy}
 use Rattle.cedar_service.specs.Engines.{policies_of, entities_of}
 use Rattle.cedar_service.specs.Faults.{IsFault, IsFaultBelow}
 use Rattle.cedar_service.specs.Standard.{standard_extensions, standard_calls}
+use Rattle.cedar_service.specs.Ways.{Ways}
 use Rattle.cedar_service.specs.Started.{is_read_memory}
 use Rattle.cedar_service.specs.Asked.{levels, entity_said, IsUnnamed, IsContextUnsaid}
 use Rattle.cedar_service.specs.Decided.{setting_of}
@@ -128,36 +131,54 @@ IsPartialText a t =
 abbrev pub IsRemainderOf : PartialResponse → Remainder → Type 0
 IsRemainderOf a (remainders.Told response) = IsPartialText a (string_bytes response)
 IsRemainderOf a (remainders.Refused error) = ⊥
+IsRemainderOf a (remainders.TooLarge error) = ⊥
 
 -- nothing is told, as this is so of the error
 abbrev pub IsUntoldAs : (Text → Type 0) → Remainder → Type 0
 IsUntoldAs Is (remainders.Told response) = ⊥
 IsUntoldAs Is (remainders.Refused error) = Is (string_bytes error)
+IsUntoldAs Is (remainders.TooLarge error) = ⊥
+
+-- nothing is told since the request brings too much, as this is so of the error
+abbrev pub IsUntoldOf : (Text → Type 0) → Remainder → Type 0
+IsUntoldOf Is (remainders.Told response) = ⊥
+IsUntoldOf Is (remainders.Refused error) = ⊥
+IsUntoldOf Is (remainders.TooLarge error) = Is (string_bytes error)
 
 -- nothing is told, with what the refusal tells
 abbrev pub IsUntoldFor : Refusal → Remainder → Type 0
 IsUntoldFor refusals.Memory o = ⊥
 IsUntoldFor (refusals.Told t) (remainders.Told response) = ⊥
 IsUntoldFor (refusals.Told t) (remainders.Refused error) = error ≡ t
+IsUntoldFor (refusals.Told t) (remainders.TooLarge error) = ⊥
+
+-- the same where no entities are brought; for private clauses
+abbrev pub IsUnbroughtRemainder : Unbrought → Remainder → Type 0
+IsUnbroughtRemainder (unbroughts.Refused r) o = IsUntoldFor r o
+IsUnbroughtRemainder (unbroughts.TooLarge t) (remainders.Told response) = ⊥
+IsUnbroughtRemainder (unbroughts.TooLarge t) (remainders.Refused error) = ⊥
+IsUnbroughtRemainder (unbroughts.TooLarge t) (remainders.TooLarge error) = error ≡ t
 
 -- what is left for a request over a store
 abbrev pub LeavesFor : world.Extensions → StoredCalls → Engine → Entities → Request → Remainder → Type 0
 LeavesFor X calls e s r o =
     (a : PartialResponse) × IsPartialTo X calls (policies_of e) s r a × IsRemainderOf a o
 
--- what is left for a request over the entities and those that the text brings; or why it brings none
-pub data IsLeftOver (X : world.Extensions) (calls : StoredCalls) (e : Engine) (text : Text) (r : Request)
+-- what is left for a request over the entities and those that the text brings, if it may; or why it brings none, or that
+-- it brings too much
+pub data IsLeftOver (X : world.Extensions) (calls : StoredCalls) (e : Engine) (w : Ways) (text : Text) (r : Request)
     (o : Remainder) : Type 0 where
-  brought : (s : Entities) → IsBroughtBy X calls (entities_of e) text s → LeavesFor X calls e s r o
-      → IsLeftOver X calls e text r o
-  not_brought : IsUntoldAs (IsUnbroughtBy X calls (entities_of e) text) o → IsLeftOver X calls e text r o
+  brought : (s : Entities) → IsBroughtBy X calls w (entities_of e) text s → LeavesFor X calls e s r o
+      → IsLeftOver X calls e w text r o
+  not_brought : IsUntoldAs (IsUnbroughtBy X calls w (entities_of e) text) o → IsLeftOver X calls e w text r o
+  too_large : IsUntoldOf (IsExcessBy w text) o → IsLeftOver X calls e w text r o
 
 -- that, for the request that is asked; or why none is
-pub data IsLeftWith (X : world.Extensions) (calls : StoredCalls) (e : Engine) (q : Partial) (text : Text)
+pub data IsLeftWith (X : world.Extensions) (calls : StoredCalls) (e : Engine) (w : Ways) (q : Partial) (text : Text)
     (o : Remainder) : Type 0 where
-  left : (r : Request) → IsAskedPartly X calls q r → IsLeftOver X calls e text r o → IsLeftWith X calls e q text o
-  not_asked_partly : IsUntoldAs (IsUnaskedPartly X calls q) o → IsLeftWith X calls e q text o
+  left : (r : Request) → IsAskedPartly X calls q r → IsLeftOver X calls e w text r o → IsLeftWith X calls e w q text o
+  not_asked_partly : IsUntoldAs (IsUnaskedPartly X calls q) o → IsLeftWith X calls e w q text o
 
 -- with the standard extensions
-abbrev pub IsLeft : Engine → Partial → Text → Remainder → Type 0
+abbrev pub IsLeft : Engine → Ways → Partial → Text → Remainder → Type 0
 IsLeft = IsLeftWith standard_extensions standard_calls

@@ -16,7 +16,7 @@ use Rattle.cedar_service.specs.Faults.{IsFaultBelow}
 use Rattle.cedar_service.specs.Started.{IsEngineOf, IsNotStarted}
 use Rattle.cedar_service.specs.Ways.{Ways, ways_of}
 
--- the policies, in Cedar's text, and the entities, in Cedar's JSON; and how evaluations are taken
+-- the policies, in Cedar's text, and the entities, in Cedar's JSON; and how requests are taken
 pub record Texts : Type 0 where
   pub policies : Text
   pub entities : Text
@@ -27,7 +27,8 @@ both_texts policies entities w = record { policies = policies; entities = entiti
 
 abbrev pub texts_view : rust_texts.Texts → Texts
 texts_view t =
-    both_texts (string_bytes t.policies) (string_bytes t.entities) (ways_of t.properties (string_bytes t.action_type))
+    both_texts (string_bytes t.policies) (string_bytes t.entities)
+    (ways_of t.properties t.brings t.bounds (string_bytes t.action_type))
 
 -- what decides
 abbrev pub engine_of : Loaded → Engine
@@ -37,7 +38,7 @@ engine_of l = l.engine
 abbrev pub texts_of : Loaded → Texts
 texts_of l = texts_view l.texts
 
--- how it takes evaluations
+-- how it takes requests
 abbrev pub loaded_ways : Loaded → Ways
 loaded_ways l = (texts_of l).ways
 

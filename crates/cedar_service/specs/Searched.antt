@@ -1,5 +1,6 @@
 -- What a search of an engine finds.
-use Rattle.std.specs.Prelude.{◌≡◌, ℕ, Bool, List, [], true, false, Option, map, codes, string_bytes}
+use Rattle.std.specs.Prelude.{◌≡◌, ◌+◌, ℕ, Bool, List, [], true, false, Option, Some, None, map, take, length, nat_lt, if◌then◌else◌, codes, string_bytes}
+use Rattle.std.specs.Option.{option_or}
 use Rattle.json.specs.Json.{Json, object, member, no_members, string}
 use Rattle.json.specs.Print.{print}
 use Rattle.json.specs.Tree.{json_tokens}
@@ -15,7 +16,7 @@ use Rattle.cedar_authorizer.specs.Responding.{considered}
 use Rattle.cedar_search.specs.declared.searches.Part.{Part}
 use Rattle.cedar_search.specs.declared.searches.Part.TheVariants as parts
 use Rattle.cedar_search.specs.Questions.{Question, sought}
-use Rattle.cedar_search.specs.Pages.{Page, IsPage}
+use Rattle.cedar_search.specs.Pages.{Page, page_made, IsPage}
 use Rattle.cedar_endpoints.specs.Asked.{Named, Properties, Evaluation}
 use Rattle.cedar_endpoints.specs.Searches.{Search, Parts, a_subject, an_action, a_resource}
 use Rattle.cedar_endpoints.specs.declared.replies.Finding.{Finding}
@@ -113,26 +114,38 @@ IsUnfound (refusals.Told t) (findings.Refused error) = error ≡ t
 
 -- ---- searches
 
--- what is found is a page of these candidates
-abbrev pub IsListed : Question → List EntityName → ℕ → ℕ → Finding → Type 0
-IsListed q us after most f = (p : Page) × IsPage q us after most p × IsFindingOf q.part p f
+-- where the next page begins at the latest, if there is a candidate
+abbrev pub next_at : ℕ → ℕ → Option ℕ
+next_at stop count = if nat_lt stop count then Some stop else None
 
--- what is found for a request of which a part is searched for: the page of those candidates with which it is allowed;
--- or where an unknown stands in its context, that
-pub data IsPageFor (X : world.Extensions) (calls : StoredCalls) (e : Engine) (s : Entities) (part : Part) (r : Request)
-    (after most : ℕ) (f : Finding) : Type 0 where
+-- the page, which stops there at the latest
+abbrev pub goes_on : ℕ → ℕ → Page → Page
+goes_on stop count p = page_made p.found (option_or p.next (next_at stop count))
+
+-- What is found is a page of these candidates, for which no more than so many of them are looked at: it is the page of
+-- those up to there. Where none of these is left, the next page begins behind them, if there are more.
+abbrev pub IsListed : ℕ → Question → List EntityName → ℕ → ℕ → Finding → Type 0
+IsListed bound q us after most f =
+    (p : Page) × IsPage q (take (after + bound) us) after most p
+    × IsFindingOf q.part (goes_on (after + bound) (length us) p) f
+
+-- what is found for a request of which a part is searched for: the page of those candidates with which it is allowed,
+-- of which no more than so many are looked at; or where an unknown stands in its context, that
+pub data IsPageFor (bound : ℕ) (X : world.Extensions) (calls : StoredCalls) (e : Engine) (s : Entities) (part : Part)
+    (r : Request) (after most : ℕ) (f : Finding) : Type 0 where
   listed : has_known_context r ≡ true
-      → IsListed (question_of X calls e s part (opened part (request_view r))) (candidates_of e) after most f
-      → IsPageFor X calls e s part r after most f
+      → IsListed bound (question_of X calls e s part (opened part (request_view r))) (candidates_of e) after most f
+      → IsPageFor bound X calls e s part r after most f
   not_known : has_known_context r ≡ false
       → IsUnfoundAs (IsFault (codes "$.context") (codes "an unknown stands in it")) f
-      → IsPageFor X calls e s part r after most f
+      → IsPageFor bound X calls e s part r after most f
 
 -- what is found for the request that is asked: the page for it over the entities with the properties of the parts that
 -- are known; or why these are refused
 pub data IsFoundOver (X : world.Extensions) (calls : StoredCalls) (e : Engine) (w : Ways) (q : Evaluation)
     (part : Part) (r : Request) (after most : ℕ) (f : Finding) : Type 0 where
-  laid : (s : Entities) → IsAskedOver X calls w (entities_of e) q s → IsPageFor X calls e s part r after most f
+  laid : (s : Entities) → IsAskedOver X calls w (entities_of e) q s
+      → IsPageFor w.bounds.candidates X calls e s part r after most f
       → IsFoundOver X calls e w q part r after most f
   not_laid : IsUnfoundAs (AreUnlaid X calls w (entities_of e) q) f
       → IsFoundOver X calls e w q part r after most f

@@ -22,11 +22,12 @@ loaded_version l = version_of (engine_of l)
 -- what the engine decides, leaves and finds, whether it can be replaced, and where it is told
 abbrev pub offers_of : Decisions Loaded → Offers
 offers_of s =
-    offered (IsDecided (engine_of s.decider) (loaded_ways s.decider)) (IsAuthorized (engine_of s.decider))
-    (IsLeft (engine_of s.decider))
+    offered (IsDecided (engine_of s.decider) (loaded_ways s.decider)) (IsAuthorized (engine_of s.decider) (loaded_ways s.decider))
+    (IsLeft (engine_of s.decider) (loaded_ways s.decider))
     (finder_of (IsFound (engine_of s.decider) (loaded_ways s.decider)) (loaded_version s.decider)
     (candidate_count (engine_of s.decider)) s.page)
     (reloads_of s.allows_reload (Refuses s.decider)) (option_map string_bytes s.metadata)
+    s.max_evaluations
 
 -- ---- one request
 

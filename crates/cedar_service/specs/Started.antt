@@ -42,6 +42,7 @@ use Rattle.cedar_service.specs.Brought.{IsBroughtBy}
 use Rattle.cedar_service.specs.Properties.{IsAskedOver}
 use Rattle.cedar_service.specs.Searched.{opened, question_of}
 use Rattle.cedar_service.specs.Ways.{Ways}
+use Rattle.cedar_service.specs.declared.ways.RequestEntities.TheVariants as allowances
 use Rattle.cedar_service.specs.declared.ways.RequestProperties.TheVariants as claims
 use Rattle.cedar_endpoints.specs.Asked.{Evaluation}
 use Rattle.cedar_search.specs.declared.searches.Part.{Part}
@@ -90,7 +91,8 @@ IsExact ps s r a =
 pub data IsStoreFor (e : Engine) (s : Entities) : Type 0 where
   with_properties : (w : Ways) (q : Evaluation)
       → IsAskedOver standard_extensions standard_calls w (entities_of e) q s → IsStoreFor e s
-  with_entities : (text : Text) → IsBroughtBy standard_extensions standard_calls (entities_of e) text s → IsStoreFor e s
+  with_entities : (w : Ways) (text : Text)
+      → IsBroughtBy standard_extensions standard_calls w (entities_of e) text s → IsStoreFor e s
 
 -- a request that it decides: that of an evaluation, or the one that a text says
 pub data IsRequestFor (r : Request) : Type 0 where
@@ -122,12 +124,19 @@ LeavesUntouched e =
     (w : Ways) (q : Evaluation) (s : Entities) → w.properties ≡ claims.None
     → IsAskedOver standard_extensions standard_calls w (entities_of e) q s → s ≡ entities_of e
 
+-- where a request may bring no entities, it is decided over the engine's own store
+abbrev pub StandsAlone : Engine → Type 0
+StandsAlone e =
+    (w : Ways) (text : Text) (s : Entities) → w.entities ≡ allowances.None
+    → IsBroughtBy standard_extensions standard_calls w (entities_of e) text s → s ≡ entities_of e
+
 -- the engine of two texts, with the standard extensions: it has what they say, and each response of it is exact
 pub record IsEngineOf (policies entities : Text) (e : Engine) : Type 0 where
   pub has : IsEngineWith standard_knowledge standard_extensions standard_calls policies entities e
   pub exact : AnswersExactly e
   pub searches : SearchesTheKnown e
   pub untouched : LeavesUntouched e
+  pub alone : StandsAlone e
 
 -- ---- why none is made
 

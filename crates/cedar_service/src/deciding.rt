@@ -5,7 +5,7 @@ ghost use Rattle.cedar_endpoints.specs.Asked.{evaluation_view};
 ghost use Rattle.cedar_service.specs.Asked.{has_known_context};
 ghost use Rattle.cedar_service.specs.Brought.{laid_or};
 ghost use Rattle.cedar_service.specs.Decided.{IsDecided, IsDecidedWith, IsDecidedOver, IsAuthorized, IsAuthorizedWith};
-ghost use Rattle.cedar_service.specs.Decided.{IsAuthorizedOver, IsAnswered, IsRefusalOf};
+ghost use Rattle.cedar_service.specs.Decided.{IsAuthorizedOver, IsAnswered, IsRefusalOf, IsUnbroughtOutcome};
 ghost use Rattle.cedar_service.specs.Documents.{IsReadAs};
 ghost use Rattle.cedar_service.specs.Engines.{version_of, candidate_count, entities_of};
 ghost use Rattle.json.specs.Value.{value_view};
@@ -14,7 +14,7 @@ ghost use Rattle.cedar_service.specs.Loaded.{engine_of, loaded_ways, Remakes, Re
 ghost use Rattle.cedar_service.specs.Searched.{IsFound};
 ghost use Rattle.cedar_service.specs.Ways.{ways_view};
 
-use crate::brought::brought_over;
+use crate::brought::{Unbrought, brought_for};
 use crate::documents::parse_json;
 use crate::engine::Engine;
 use crate::faults::{Refusal, refuse, refuse_json};
@@ -39,9 +39,9 @@ use std::alloc::{AllocError, Global};
 impl Decider for Loaded {
     ghost decides = { λ l. IsDecided (engine_of l) (loaded_ways l) };
 
-    ghost authorizes = { λ l. IsAuthorized (engine_of l) };
+    ghost authorizes = { λ l. IsAuthorized (engine_of l) (loaded_ways l) };
 
-    ghost leaves = { λ l. IsLeft (engine_of l) };
+    ghost leaves = { λ l. IsLeft (engine_of l) (loaded_ways l) };
 
     ghost finds = { λ l. IsFound (engine_of l) (loaded_ways l) };
 
@@ -58,7 +58,7 @@ impl Decider for Loaded {
     }
 
     fn authorize(&self, alloc: Global, text: &str) -> Result<Outcome, AllocError> {
-        authorize(&self.engine, alloc, text)
+        authorize(&self.engine, alloc, text, ways_of(&self.texts))
     }
 
     fn authorize_partially(
@@ -67,7 +67,7 @@ impl Decider for Loaded {
         request: &Partial<'_, '_>,
         text: &str,
     ) -> Result<Remainder, AllocError> {
-        leave(&self.engine, alloc, request, text)
+        leave(&self.engine, alloc, request, text, ways_of(&self.texts))
     }
 
     fn remake(&self, alloc: Global, replaced: Replaced, text: &str) -> Result<Loaded, NotRemade> {
@@ -112,11 +112,16 @@ fn decide(
     decide_with(engine, alloc, question, ways, &extensions)
 }
 
-fn authorize(engine: &Engine, alloc: Global, text: &str) -> Result<Outcome, AllocError>
-    ensures { IfOk result (IsAuthorized engine.now text.now) }
+fn authorize(
+    engine: &Engine,
+    alloc: Global,
+    text: &str,
+    ways: Ways<'_>,
+) -> Result<Outcome, AllocError>
+    ensures { IfOk result (IsAuthorized engine.now (ways_view ways.entry) text.now) }
 {
     let extensions = Extensions::all_available();
-    authorize_with(engine, alloc, text, &extensions)
+    authorize_with(engine, alloc, text, ways, &extensions)
 }
 
 // ---- an evaluation
@@ -164,14 +169,15 @@ fn authorize_with(
     engine: &Engine,
     alloc: Global,
     text: &str,
+    ways: Ways<'_>,
     extensions: &Extensions<'_>,
 ) -> Result<Outcome, AllocError>
     ensures { IfOk result (IsAuthorizedWith (extensions_view extensions.now) (calls_of extensions.now) engine.now
-        text.now) }
+        (ways_view ways.entry) text.now) }
 {
     let mut scratch = Scratch::new(alloc);
     match parse_json(alloc, text, &mut scratch) {
-        Ok(value) => authorize_value(engine, alloc, text, value, extensions),
+        Ok(value) => authorize_value(engine, alloc, text, value, ways, extensions),
         Err(error) => {
             let refusal = refuse_json(alloc, "$", &error);
             drop(error);
@@ -186,17 +192,18 @@ fn authorize_value(
     alloc: Global,
     text: &str,
     value: Value<'_>,
+    ways: Ways<'_>,
     extensions: &Extensions<'_>,
 ) -> Result<Outcome, AllocError>
     requires read { IsReadAs text.now (value_view value) }
     ensures { IfOk result (IsAuthorizedWith (extensions_view extensions.now) (calls_of extensions.now) engine.now
-        text.now) }
+        (ways_view ways.entry) text.now) }
 {
-    match brought_over(alloc, &engine.base, &value, extensions) {
+    match brought_for(alloc, &engine.base, &value, ways, extensions) {
         Ok(brought) => authorize_over(engine, alloc, text, value, brought, extensions),
-        Err(refusal) => {
+        Err(unbrought) => {
             drop(value);
-            refused(refusal)
+            unbrought_outcome(unbrought)
         }
     }
 }
@@ -279,6 +286,17 @@ fn answer_known(
     let outcome = outcome_of(alloc, &response);
     drop(response);
     outcome
+}
+
+// No decision, since no entities are brought.
+#[cold]
+fn unbrought_outcome(unbrought: Unbrought) -> Result<Outcome, AllocError>
+    ensures { IfOk result (IsUnbroughtOutcome unbrought) }
+{
+    match unbrought {
+        Unbrought::Refused(refusal) => refused(refusal),
+        Unbrought::TooLarge(error) => Ok(Outcome::TooLarge { error }),
+    }
 }
 
 // No decision, for what is told.

@@ -203,8 +203,8 @@ fn join(alloc: Global, path: &str, steps: &str) -> Result<String, AllocError>
     format!(in alloc; "{path}{steps}")
 }
 
-// Where something is wrong, and why, as JSON.
-fn fault_text(alloc: Global, path: &str, reason: &str) -> Result<String, AllocError>
+/// Where something is wrong, and why, as JSON.
+pub(crate) fn fault_text(alloc: Global, path: &str, reason: &str) -> Result<String, AllocError>
     ensures { IfOk result (λ s. string_bytes s ≡ fault_text path.now reason.now) }
 {
     let fault = fault_json(alloc, path, reason)?;

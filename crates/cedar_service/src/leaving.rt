@@ -5,12 +5,14 @@ ghost use Rattle.cedar_endpoints.specs.Partials.{partial_view};
 ghost use Rattle.cedar_service.specs.Engines.{policies_of, entities_of};
 ghost use Rattle.cedar_service.specs.Brought.{laid_or};
 ghost use Rattle.cedar_service.specs.Left.{IsLeft, IsLeftWith, IsLeftOver, IsAskedPartly, IsPartialTo, IsPartialText};
-ghost use Rattle.cedar_service.specs.Left.{IsRemainderOf, IsUntoldFor, LeavesFor};
+ghost use Rattle.cedar_service.specs.Left.{IsRemainderOf, IsUntoldFor, IsUnbroughtRemainder, LeavesFor};
+ghost use Rattle.cedar_service.specs.Ways.{ways_view};
 
-use crate::brought::brought_by;
+use crate::brought::{Unbrought, brought_by};
 use crate::engine::Engine;
 use crate::faults::Refusal;
 use crate::partials::partial_request;
+use crate::ways::Ways;
 use cedar_authorizer::authorizer::{Authorizer, PartialResponse};
 use cedar_endpoints::{Partial, Remainder};
 use cedar_extensions::Extensions;
@@ -26,11 +28,12 @@ pub(crate) fn leave(
     alloc: Global,
     question: &Partial<'_, '_>,
     text: &str,
+    ways: Ways<'_>,
 ) -> Result<Remainder, AllocError>
-    ensures { IfOk result (IsLeft engine.now (partial_view question.now) text.now) }
+    ensures { IfOk result (IsLeft engine.now (ways_view ways.entry) (partial_view question.now) text.now) }
 {
     let extensions = Extensions::all_available();
-    leave_with(engine, alloc, question, text, &extensions)
+    leave_with(engine, alloc, question, text, ways, &extensions)
 }
 
 fn leave_with(
@@ -38,13 +41,14 @@ fn leave_with(
     alloc: Global,
     question: &Partial<'_, '_>,
     text: &str,
+    ways: Ways<'_>,
     extensions: &Extensions<'_>,
 ) -> Result<Remainder, AllocError>
     ensures { IfOk result (IsLeftWith (extensions_view extensions.now) (calls_of extensions.now) engine.now
-        (partial_view question.now) text.now) }
+        (ways_view ways.entry) (partial_view question.now) text.now) }
 {
     match partial_request(alloc, question, extensions) {
-        Ok(request) => leave_over(engine, alloc, text, request, extensions),
+        Ok(request) => leave_over(engine, alloc, text, ways, request, extensions),
         Err(refusal) => untold(refusal),
     }
 }
@@ -54,17 +58,18 @@ fn leave_over(
     engine: &Engine,
     alloc: Global,
     text: &str,
+    ways: Ways<'_>,
     request: Request,
     extensions: &Extensions<'_>,
 ) -> Result<Remainder, AllocError>
-    ensures { IfOk result (IsLeftOver (extensions_view extensions.now) (calls_of extensions.now) engine.now text.now
-        request) }
+    ensures { IfOk result (IsLeftOver (extensions_view extensions.now) (calls_of extensions.now) engine.now
+        (ways_view ways.entry) text.now request) }
 {
-    match brought_by(alloc, &engine.base, text, extensions) {
+    match brought_by(alloc, &engine.base, text, ways, extensions) {
         Ok(brought) => leave_laid(engine, alloc, brought, request, extensions),
-        Err(refusal) => {
+        Err(unbrought) => {
             drop(request);
-            untold(refusal)
+            unbrought_remainder(unbrought)
         }
     }
 }
@@ -135,6 +140,17 @@ fn response_text(alloc: Global, response: &PartialResponse) -> Result<String, Al
     let text = json.to_text(alloc);
     drop(json);
     text
+}
+
+// Nothing is told, since no entities are brought.
+#[cold]
+fn unbrought_remainder(unbrought: Unbrought) -> Result<Remainder, AllocError>
+    ensures { IfOk result (IsUnbroughtRemainder unbrought) }
+{
+    match unbrought {
+        Unbrought::Refused(refusal) => untold(refusal),
+        Unbrought::TooLarge(error) => Ok(Remainder::TooLarge { error }),
+    }
 }
 
 // Nothing is told, for what is wrong.

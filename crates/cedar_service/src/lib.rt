@@ -3,7 +3,7 @@
 //!
 //! - `engine`: `Engine`, and why none is made of two texts. `deciding`: what an engine answers, as `cedar_endpoints`
 //!   asks it.
-//! - `ways`: how evaluations are taken. `requests`, `names`, `contexts`: the request that is asked. `responses`: the decision, and its response as JSON.
+//! - `ways`: how requests are taken. `requests`, `names`, `contexts`: the request that is asked. `responses`: the decision, and its response as JSON.
 //! - `searching`: what a search finds. `opened`: the request in which a part is searched for. `found`: what is found, as
 //!   JSON. `versions`: the version of what is decided and found.
 //! - `partials`, `leaving`: the request of which parts may be unknown, and what is left of the policies for it.
@@ -47,4 +47,4 @@ pub use engine::{Engine, NotStarted};
 pub use loaded::Loaded;
 pub use reasons::policies_reason;
 pub use serving::serve_decisions;
-pub use ways::{RequestProperties, Ways};
+pub use ways::{RequestEntities, RequestProperties, Ways};

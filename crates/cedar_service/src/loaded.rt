@@ -9,8 +9,8 @@ ghost use Rattle.cedar_service.specs.Ways.{ways_view};
 use crate::engine::{Engine, NotStarted};
 use crate::faults::{Refusal, refuse_below, refuse_json};
 use crate::reasons::policies_reason;
-use crate::ways::{RequestProperties, Ways};
-use cedar_endpoints::{NotRemade, Replaced};
+use crate::ways::{RequestEntities, RequestProperties, Ways};
+use cedar_endpoints::{Bounds, NotRemade, Replaced};
 use cedar_hierarchy::ClosureError;
 use cedar_names::FirstRest;
 use cedar_text_parser::ParseError;
@@ -25,6 +25,10 @@ pub(crate) struct Texts {
     pub(crate) entities: String,
     // Of which entities the properties of an evaluation are taken.
     pub(crate) properties: RequestProperties,
+    // Whether a request may bring entities.
+    pub(crate) brings: RequestEntities,
+    // How much a request may ask and bring.
+    pub(crate) bounds: Bounds,
     // The type of the actions.
     pub(crate) action_type: String,
 }
@@ -41,8 +45,8 @@ impl Loaded {
     ghost use Rattle.cedar_service.specs.Started.{IsNotStarted};
 
     /// The engine of the policies that the first text writes, in Cedar's text, over the entities that the second one
-    /// says, in Cedar's JSON, with copies of both. Evaluations are taken in these ways, which say of which entities they
-    /// may have properties. Refuses as `Engine::of_texts` does.
+    /// says, in Cedar's JSON, with copies of both. Requests are taken in these ways, which say of which entities they may
+    /// have properties, whether they may bring entities, and how much they may ask and bring. Refuses as `Engine::of_texts` does.
     pub fn of_texts(
         alloc: Global,
         policies: &str,
@@ -68,12 +72,14 @@ impl Loaded {
 
 ghost use Rattle.cedar_service.specs.Started.{IsNotStarted};
 
-/// How evaluations are taken.
+/// How requests are taken.
 pub(crate) fn ways_of(texts: &Texts) -> Ways<'_>
     ensures { ways_view result ≡ (texts_view texts.now).ways }
 {
     Ways {
         properties: texts.properties,
+        entities: texts.brings,
+        bounds: texts.bounds,
         action_type: texts.action_type.as_str(),
     }
 }
@@ -112,6 +118,8 @@ fn copied(
         policies,
         entities,
         properties: ways.properties,
+        brings: ways.entities,
+        bounds: ways.bounds,
         action_type,
     })
 }

@@ -1,14 +1,16 @@
+#![tactic(auto, using(crate::proofs::Bounded::bounded))]
 //! What a search of an engine finds.
-ghost use Rattle.std.specs.Prelude.{◌≡◌, true, IfOk};
+ghost use Rattle.std.specs.Prelude.{◌≡◌, ◌+◌, true, take, nat_lt, IfOk};
+ghost use Rattle.std.specs.Option.{option_or};
 ghost use Rattle.cedar_extensions.specs.Extensions.{extensions_view, calls_of};
 ghost use Rattle.cedar_requests.specs.Requests.{request_view};
-ghost use Rattle.cedar_search.specs.Pages.{IsPage, page_view};
+ghost use Rattle.cedar_search.specs.Pages.{IsPage, page_view, page_made};
 ghost use Rattle.cedar_endpoints.specs.Asked.{evaluation_view, named_view};
 ghost use Rattle.cedar_endpoints.specs.Searches.{search_view, parts_view};
 ghost use Rattle.cedar_service.specs.Asked.{has_known_context};
 ghost use Rattle.cedar_service.specs.Brought.{laid_or};
-ghost use Rattle.cedar_service.specs.Engines.{candidates_of, entities_of};
-ghost use Rattle.cedar_service.specs.Searched.{sample, sample_named, part_of, question_of};
+ghost use Rattle.cedar_service.specs.Engines.{candidates_of, candidate_count, entities_of};
+ghost use Rattle.cedar_service.specs.Searched.{sample, sample_named, part_of, question_of, next_at};
 ghost use Rattle.cedar_service.specs.Ways.{ways_view};
 ghost use Rattle.cedar_service.specs.Searched.{IsFound, IsFoundWith, IsFoundOver, IsPageFor, IsListed, IsFindingOf, IsUnfound};
 
@@ -24,6 +26,7 @@ use cedar_authorizer::authorizer::Authorizer;
 use cedar_endpoints::{Evaluation, Finding, Named, Parts, Search};
 use cedar_extensions::Extensions;
 use cedar_layers::policies::Entities;
+use cedar_names::EntityUID;
 use cedar_requests::Request;
 use cedar_search::{Page, Part};
 use std::alloc::{AllocError, Global};
@@ -89,7 +92,15 @@ fn find_over(
         (ways_view ways.entry) (evaluation_view sample.now) pages.part request pages.after pages.most) }
 {
     match laid_over(alloc, engine.entities(), sample, ways, extensions) {
-        Ok(laid) => find_laid(engine, alloc, laid, request, pages, extensions),
+        Ok(laid) => find_laid(
+            engine,
+            alloc,
+            laid,
+            request,
+            pages,
+            ways.bounds.candidates,
+            extensions,
+        ),
         Err(refusal) => {
             drop(request);
             unfound(refusal)
@@ -104,18 +115,27 @@ fn find_laid(
     laid: Option<Entities>,
     request: Request,
     pages: Pages,
+    bound: usize,
     extensions: &Extensions<'_>,
 ) -> Result<Finding, AllocError>
-    ensures { IfOk result (IsPageFor (extensions_view extensions.now) (calls_of extensions.now) engine.now
+    ensures { IfOk result (IsPageFor bound (extensions_view extensions.now) (calls_of extensions.now) engine.now
         (laid_or (entities_of engine.now) laid) pages.part request pages.after pages.most) }
 {
     match laid {
         Some(store) => {
-            let finding = find(engine, alloc, &store, request, pages, extensions);
+            let finding = find(engine, alloc, &store, request, pages, bound, extensions);
             drop(store);
             finding
         }
-        None => find(engine, alloc, engine.entities(), request, pages, extensions),
+        None => find(
+            engine,
+            alloc,
+            engine.entities(),
+            request,
+            pages,
+            bound,
+            extensions,
+        ),
     }
 }
 
@@ -181,13 +201,14 @@ fn find(
     store: &Entities,
     request: Request,
     pages: Pages,
+    bound: usize,
     extensions: &Extensions<'_>,
 ) -> Result<Finding, AllocError>
-    ensures { IfOk result (IsPageFor (extensions_view extensions.now) (calls_of extensions.now) engine.now store.now
+    ensures { IfOk result (IsPageFor bound (extensions_view extensions.now) (calls_of extensions.now) engine.now store.now
         pages.part request pages.after pages.most) }
 {
     if has_known_context(&request) {
-        find_known(engine, alloc, store, request, pages, extensions)
+        find_known(engine, alloc, store, request, pages, bound, extensions)
     } else {
         drop(request);
         unfound(refuse(alloc, "$.context", "an unknown stands in it"))
@@ -200,14 +221,15 @@ fn find_known(
     store: &Entities,
     request: Request,
     pages: Pages,
+    bound: usize,
     extensions: &Extensions<'_>,
 ) -> Result<Finding, AllocError>
     requires { has_known_context request ≡ true }
-    ensures { IfOk result (IsPageFor (extensions_view extensions.now) (calls_of extensions.now) engine.now store.now
+    ensures { IfOk result (IsPageFor bound (extensions_view extensions.now) (calls_of extensions.now) engine.now store.now
         pages.part request pages.after pages.most) }
 {
     let open = opened(pages.part, request)?;
-    let finding = listed(engine, alloc, store, &open, pages, extensions);
+    let finding = listed(engine, alloc, store, &open, pages, bound, extensions);
     drop(open);
     finding
 }
@@ -218,27 +240,32 @@ fn listed(
     store: &Entities,
     request: &Request,
     pages: Pages,
+    bound: usize,
     extensions: &Extensions<'_>,
 ) -> Result<Finding, AllocError>
-    ensures { IfOk result (IsListed
+    ensures { IfOk result (IsListed bound
         (question_of (extensions_view extensions.now) (calls_of extensions.now) engine.now store.now pages.part
         (request_view request.now)) (candidates_of engine.now) pages.after pages.most) }
 {
-    let page = page_of(engine, alloc, store, request, pages, extensions)?;
-    finding_of(alloc, pages.part, &page)
+    let page = page_of(engine, alloc, store, request, pages, bound, extensions)?;
+    let next = next_of(page.next, pages.after, bound, candidate_count(engine));
+    finding_of(alloc, pages.part, &page, next)
 }
 
+// The page of the candidates that are looked at.
 fn page_of(
     engine: &Engine,
     alloc: Global,
     store: &Entities,
     request: &Request,
     pages: Pages,
+    bound: usize,
     extensions: &Extensions<'_>,
 ) -> Result<Page, AllocError>
     ensures { IfOk result (λ p. IsPage
         (question_of (extensions_view extensions.now) (calls_of extensions.now) engine.now store.now pages.part
-        (request_view request.now)) (candidates_of engine.now) pages.after pages.most (page_view p)) }
+        (request_view request.now)) (take (pages.after + bound) (candidates_of engine.now)) pages.after pages.most
+        (page_view p)) }
 {
     let authorizer = Authorizer::new(extensions, LIMIT);
     let search = cedar_search::Search {
@@ -246,19 +273,67 @@ fn page_of(
         request,
         policies: &engine.policies.policies,
         entities: store,
-        candidates: engine.candidates.as_slice(),
+        candidates: looked_at(engine.candidates.as_slice(), pages.after, bound),
     };
     search.page(alloc, &authorizer, pages.after, pages.most)
 }
 
-fn finding_of(alloc: Global, part: Part, page: &Page) -> Result<Finding, AllocError>
-    ensures { IfOk result (IsFindingOf part (page_view page.now)) }
+fn finding_of(
+    alloc: Global,
+    part: Part,
+    page: &Page,
+    next: Option<usize>,
+) -> Result<Finding, AllocError>
+    ensures { IfOk result (IsFindingOf part (page_made (page_view page.now).found next)) }
 {
     let results = texts_of(alloc, part, page.found.as_slice())?;
-    Ok(Finding::Found {
-        results,
-        next: page.next,
-    })
+    Ok(Finding::Found { results, next })
+}
+
+// ---- how many candidates are looked at
+
+fn candidate_count(engine: &Engine) -> usize
+    ensures { result ≡ candidate_count engine.now }
+{
+    engine.candidates.len()
+}
+
+// Those up to where a page stops that begins behind so many and looks at so many.
+fn looked_at(candidates: &[EntityUID], after: usize, bound: usize) -> &[EntityUID]
+    ensures { result.now ≡ take (after + bound) candidates.now }
+{
+    if stops_before(after, bound, candidates.len()) {
+        let (front, _) = candidates.split_at(after + bound);
+        front
+    } else {
+        candidates
+    }
+}
+
+fn stops_before(after: usize, bound: usize, count: usize) -> bool
+    ensures { result ≡ nat_lt (after + bound) count }
+{
+    after < count && bound < count - after
+}
+
+// Where the next page begins: where this one says, or else where it stops, if there is a candidate.
+fn next_of(next: Option<usize>, after: usize, bound: usize, count: usize) -> Option<usize>
+    ensures { result ≡ option_or next (next_at (after + bound) count) }
+{
+    match next {
+        Some(place) => Some(place),
+        None => next_at(after, bound, count),
+    }
+}
+
+fn next_at(after: usize, bound: usize, count: usize) -> Option<usize>
+    ensures { result ≡ next_at (after + bound) count }
+{
+    if stops_before(after, bound, count) {
+        Some(after + bound)
+    } else {
+        None
+    }
 }
 
 // Nothing is found, for what is told.

@@ -1,4 +1,5 @@
-//! How evaluations are taken.
+//! How requests are taken.
+use cedar_endpoints::Bounds;
 
 /// Of which entities an evaluation's properties are taken, as attributes. Properties without a member are none.
 #[derive(Clone, Copy)]
@@ -30,11 +31,24 @@ impl RequestProperties {
     }
 }
 
-/// How evaluations are taken: what they say beside their names, and what their names stand for.
+/// Whether a request of Cedar's own may bring entities. An empty array of them is none.
+#[derive(Clone, Copy)]
+pub enum RequestEntities {
+    /// It may bring none: what decides is the stored ones alone.
+    None,
+    /// It may bring some, beside the stored ones.
+    Allowed,
+}
+
+/// How requests are taken: what they say beside names, how much of it, and what the names of evaluations stand for.
 #[derive(Clone, Copy)]
 pub struct Ways<'t> {
-    /// Of which entities properties are taken.
+    /// Of which entities the properties of an evaluation are taken.
     pub properties: RequestProperties,
+    /// Whether entities are taken.
+    pub entities: RequestEntities,
+    /// How much is taken, and looked at.
+    pub bounds: Bounds,
     /// The type of the actions, which an evaluation names by their ids alone: a name, as `Action`.
     pub action_type: &'t str,
 }

@@ -1,5 +1,5 @@
 -- How SQL expressions are written, in bytes of UTF-8. Each stands in brackets, or between `CASE` and `END`; a chain of
--- `OR` stands in one pair of brackets.
+-- `OR` stands in one pair of brackets. Each column stands behind its table.
 use Rattle.std.specs.Prelude.{ℕ, Bool, true, false, ◌==◌, List, [], ◌∷◌, ◌++◌, if◌then◌else◌, codes, flat_map}
 use Rattle.std.specs.Prelude.{Option, Some, None, slice_get}
 use Rattle.std.specs.Fmt.{signed_decimal}
@@ -9,6 +9,7 @@ use Rattle.std.specs.declared.rc.RcStr.{RcStr}
 use Rattle.cedar_model.specs.Terms.{Text}
 use Rattle.cedar_filter.specs.declared.conditions.Comparison.{Comparison}
 use Rattle.cedar_filter.specs.declared.conditions.Comparison.TheVariants as comparisons
+use Rattle.cedar_sql.specs.declared.columns.TableNames.{TableNames}
 use Rattle.cedar_sql.specs.declared.terms.SqlTerm.{SqlTerm}
 use Rattle.cedar_sql.specs.declared.terms.SqlTerm.TheVariants as terms
 
@@ -34,6 +35,11 @@ name_or_none (Some n) = rc_str_bytes n
 abbrev pub name_at : List (RcStr Global) → ℕ → Text
 name_at names place = name_or_none (slice_get names place)
 
+-- the name of the table and that of the column, each in quotes of its own: `"doc"."size"`
+abbrev pub column_text : TableNames → ℕ → Text
+column_text names place =
+    quoted 34 (rc_str_bytes names.table) ++ (codes "." ++ quoted 34 (name_at names.columns.items place))
+
 -- ---- expressions
 
 abbrev pub sign_text : Comparison → Text
@@ -51,13 +57,13 @@ opening in_chain = if in_chain then [] else codes "("
 abbrev pub closing : Bool → Text
 closing in_chain = if in_chain then [] else codes ")"
 
--- the columns have these names; the expression is the front of a chain of `OR` or not
-module _ (names : List (RcStr Global)) where
+-- the table and its columns are called so; the expression is the front of a chain of `OR` or not
+module _ (names : TableNames) where
   abbrev pub term_text : Bool → SqlTerm → Text
   term_text in_chain terms.Null = codes "NULL"
   term_text in_chain (terms.Number n) = signed_decimal n
   term_text in_chain (terms.Text t) = quoted 39 (rc_str_bytes t)
-  term_text in_chain (terms.Column place) = quoted 34 (name_at names place)
+  term_text in_chain (terms.Column place) = column_text names place
   term_text in_chain (terms.IsNull' p a) = codes "(" ++ (term_text false a ++ codes " IS NULL)")
   term_text in_chain (terms.Not' p a) = codes "(NOT " ++ (term_text false a ++ codes ")")
   term_text in_chain (terms.Is' p a b) = codes "(" ++ (term_text false a ++ is_text b)

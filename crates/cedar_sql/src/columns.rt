@@ -1,4 +1,4 @@
-//! The columns of a table whose rows stand for entities.
+//! The columns of a table whose rows stand for entities, and what the table and they are called.
 ghost use Rattle.std.specs.Prelude.{◌≡◌, option_copied};
 ghost use Rattle.std.specs.Rc.{rc_str_bytes};
 ghost use Rattle.cedar_sql.specs.Columns.{same_operand, is_attribute, column_at};
@@ -52,6 +52,15 @@ pub struct Columns {
     pub entity_type: RowType,
     /// The attributes, each with its column. Of two columns of one attribute the first is read.
     pub attributes: Vec<Column>,
+}
+
+/// What a table and its columns are called in SQL.
+#[derive(Drop)]
+pub struct TableNames {
+    /// The name of the table in the query, or its alias: each column is written with it.
+    pub table: RcStr,
+    /// The name of the column at each place, in order; in the kit's tables the first is `rowid`.
+    pub columns: Vec<RcStr>,
 }
 
 fn same_operand(operand: &Operand, other: &Operand) -> bool

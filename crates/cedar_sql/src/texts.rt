@@ -5,6 +5,7 @@ ghost use Rattle.std.specs.Char.{encode_utf8};
 ghost use Rattle.std.specs.Fmt.{WritesOnOk};
 ghost use Rattle.cedar_sql.specs.Texts as texts;
 
+use crate::columns::TableNames;
 use crate::terms::SqlTerm;
 use cedar_filter::Comparison;
 use std::alloc::{AllocError, Global};
@@ -12,24 +13,26 @@ use std::fmt;
 use std::fmt::Display;
 use std::rc::RcStr;
 
-/// The expression as SQL text, where the columns of the row have these names: that of the column at each place, in
-/// order; in the kit's tables the first is `rowid`. A name stands in `"`, a text in `'`, and a quote within them twice.
-/// A column that has no name here is written `""`, which no SQL reads. The text compares as the expression does where
-/// the columns are of the collation BINARY. Refuses only if out of memory.
+/// The expression as SQL text, where the table and its columns are called so. Each column is written with its table, as
+/// `"doc"."size"`: both names in `"`, and apart. A text stands in `'`, and a quote within quotes twice. A column that has no
+/// name here is written `"doc".""`. The text compares as the expression does where the columns are of the collation
+/// BINARY. Refuses only if out of memory.
 ///
-/// The bytes are promised. That SQL reads this expression of them is tested, not proved. The kit's grammar refuses more
-/// than 60 expressions in one another, as in a condition with so many `&&`; a chain of `OR` is one.
-pub fn term_to_sql(alloc: Global, term: &SqlTerm, names: &[RcStr]) -> Result<String, AllocError>
+/// The bytes are promised. That SQL reads this expression of them is tested, not proved; and so is that a column which the
+/// table lacks is an error of the database. Without its table SQLite takes `"size"` for a text where no column is called
+/// so. The kit's grammar refuses more than 60 expressions in one another, as in a condition with so many `&&`; a chain of
+/// `OR` is one.
+pub fn term_to_sql(alloc: Global, term: &SqlTerm, names: &TableNames) -> Result<String, AllocError>
     ensures { IfOk result (λ t. string_bytes t ≡ texts.term_text names.now false term.now) }
 {
     format!(in alloc; "{}", Named { term, names })
 }
 
-/// An expression, where the columns have these names.
+/// An expression, where the table and its columns are called so.
 #[derive(Drop)]
 struct Named<'a> {
     term: &'a SqlTerm,
-    names: &'a [RcStr],
+    names: &'a TableNames,
 }
 
 impl fmt::Display for Named<'_> {
@@ -47,7 +50,7 @@ impl fmt::Display for Named<'_> {
 #[cycle(write)]
 fn write_term<W: fmt::Write>(
     term: &SqlTerm,
-    names: &[RcStr],
+    names: &TableNames,
     in_chain: bool,
     f: &mut fmt::Formatter<W>,
 ) -> fmt::Result
@@ -91,7 +94,7 @@ fn write_term<W: fmt::Write>(
 fn write_one<W: fmt::Write>(
     before: &str,
     part: &SqlTerm,
-    names: &[RcStr],
+    names: &TableNames,
     after: &str,
     f: &mut fmt::Formatter<W>,
 ) -> fmt::Result
@@ -111,7 +114,7 @@ fn write_two<W: fmt::Write>(
     between: &str,
     second: &SqlTerm,
     after: &str,
-    names: &[RcStr],
+    names: &TableNames,
     f: &mut fmt::Formatter<W>,
 ) -> fmt::Result
     ensures { WritesOnOk W.write_str_gives f.old result
@@ -128,7 +131,7 @@ fn write_choice<W: fmt::Write>(
     test: &SqlTerm,
     yes: &SqlTerm,
     no: &SqlTerm,
-    names: &[RcStr],
+    names: &TableNames,
     f: &mut fmt::Formatter<W>,
 ) -> fmt::Result
     ensures { WritesOnOk W.write_str_gives f.old result
@@ -184,12 +187,14 @@ fn sign_text(comparison: Comparison) -> &'static str
 
 fn write_column<W: fmt::Write>(
     place: usize,
-    names: &[RcStr],
+    names: &TableNames,
     f: &mut fmt::Formatter<W>,
 ) -> fmt::Result
-    ensures { WritesOnOk W.write_str_gives f.old result (texts.quoted 34 (texts.name_at names.now place)) f.new }
+    ensures { WritesOnOk W.write_str_gives f.old result (texts.column_text names.now place) f.new }
 {
-    write_quoted('"', name_at(names, place), f)
+    write_quoted('"', names.table.as_str(), f)?;
+    f.write_str(".")?;
+    write_quoted('"', name_at(names.columns.as_slice(), place), f)
 }
 
 fn name_at(names: &[RcStr], place: usize) -> &str

@@ -34,6 +34,10 @@ reason_text reasons.NotAnAttribute = codes "no attribute"
 reason_text reasons.DuplicateAttribute = codes "duplicate attribute"
 reason_text reasons.UnexpectedMember = codes "a member too many"
 reason_text reasons.MissingMember = codes "missing"
+reason_text reasons.EmptyName = codes "an empty name"
+reason_text reasons.NulInName = codes "a NUL in a name"
+reason_text reasons.PointInName =
+    codes "a `.` in a name: each name stands alone, that of the table, or its alias, at `table`"
 
 abbrev pub refusal_text : List Step → RefusalReason → Text
 refusal_text path reason = path_text path ++ (codes ": " ++ reason_text reason)

@@ -1,6 +1,7 @@
 -- What the JSON of a table says: the names of its columns, and what each holds.
 use Rattle.std.specs.Prelude.{ℕ, ◌+◌, Bool, true, false, List, [], ◌∷◌, ◌++◌, if◌then◌else◌, Option, Some, None, Ok}
-use Rattle.std.specs.Prelude.{bytes_eq, codes}
+use Rattle.std.specs.Prelude.{◌==◌, bytes_eq, codes}
+use Rattle.std.specs.List.{list_any}
 use Rattle.json.specs.Json.{Json, Items, no_items, item, Members, no_members, member}
 use Rattle.json.specs.Find.{as_str, as_array, as_object}
 use Rattle.json.specs.Strict.{keys}
@@ -9,11 +10,33 @@ use Rattle.cedar_model.specs.Outcomes.{text_eq}
 use Rattle.cedar_sql_columns.specs.declared.errors.RefusalReason.TheVariants as reasons
 use Rattle.cedar_sql_columns.specs.Paths.{at_key, at_index}
 use Rattle.cedar_sql_columns.specs.Refusals.{Said, refused, under, made_of, and_then}
-use Rattle.cedar_sql_columns.specs.Shapes.{one_at, two_at, three_at, text_said}
+use Rattle.cedar_sql_columns.specs.Shapes.{one_at, two_at, four_at, text_said}
 
 -- the text at this key
 abbrev pub text_under : Text → Json → Said Text
 text_under k j = under (at_key k) (text_said j)
+
+-- ---- names of tables and columns
+
+abbrev pub is_empty : Text → Bool
+is_empty [] = true
+is_empty (b ∷ bs) = false
+
+-- whether the byte is among those of the text: 0 is NUL, and 46 is `.`
+abbrev pub has_byte : ℕ → Text → Bool
+has_byte mark t = list_any (λ b. b == mark) t
+
+-- a name of one part, which SQL can write in quotes
+abbrev pub name_said : Text → Said Text
+name_said t =
+    if is_empty t then refused reasons.EmptyName else (
+    if has_byte 0 t then refused reasons.NulInName else (
+    if has_byte 46 t then refused reasons.PointInName else
+    Ok t))
+
+-- the name at this key
+abbrev pub name_under : Text → Json → Said Text
+name_under k j = under (at_key k) (and_then name_said (text_said j))
 
 -- ---- what a column holds
 
@@ -118,9 +141,13 @@ new_column done c = if is_held c.attribute done then refused reasons.DuplicateAt
 abbrev pub new_column_said : List SaidColumn → ℕ → Json → Said SaidColumn
 new_column_said done n j = and_then (new_column done) (column_said n j)
 
+-- the same, of a column of this name
+abbrev pub named_column_said : List SaidColumn → ℕ → Text → Json → Said SaidColumn
+named_column_said done n k j = and_then (λ name. new_column_said done n j) (name_said k)
+
 -- these columns, and the one of a member
 abbrev pub one_more_said : List SaidColumn → ℕ → Text → Json → Said (List SaidColumn)
-one_more_said done n k j = made_of (λ c. done ++ c ∷ []) (under (at_key k) (new_column_said done n j))
+one_more_said done n k j = made_of (λ c. done ++ c ∷ []) (under (at_key k) (named_column_said done n k j))
 
 -- these columns, and those of an object's members, the first at this place
 abbrev pub columns_after : List SaidColumn → ℕ → Members → Said (List SaidColumn)
@@ -138,7 +165,7 @@ pub data TypeSaid : Type 0 where
   held_in : Text → TypeSaid
 
 abbrev pub type_by : Json → Option Text → Said TypeSaid
-type_by j None = made_of held_in (and_then (text_under (codes "column")) (one_at (codes "column") j))
+type_by j None = made_of held_in (and_then (name_under (codes "column")) (one_at (codes "column") j))
 type_by j (Some t) = Ok (all_of t)
 
 -- a text, or the name at `column`, the one member
@@ -163,35 +190,41 @@ abbrev pub first_place : TypeSaid → ℕ
 first_place (all_of t) = 2
 first_place (held_in c) = 3
 
--- the columns of a table: what each is called, from the rowid on, and what they hold
+-- what a table is called, and its columns: what each is called, from the rowid on, and what they hold
 pub record SaidTable : Type 0 where
+  pub table : Text
   pub names : List Text
   pub id : ℕ
   pub types : TypesOf
   pub attributes : List SaidColumn
 
 -- the rowid stands first, then the id and the type, if there is a column for it, then the attributes
-abbrev pub table_of : Text → TypeSaid → List Text → List SaidColumn → SaidTable
-table_of id t ks cs = record {
+abbrev pub table_of : Text → Text → TypeSaid → List Text → List SaidColumn → SaidTable
+table_of table id t ks cs = record {
+  table = table;
   names = codes "rowid" ∷ id ∷ (type_names t ++ ks);
   id = 1;
   types = types_of t;
   attributes = cs;
 }
 
-abbrev pub with_members : Text → TypeSaid → Option Members → Said SaidTable
-with_members id t None = refused reasons.NotAnObject
-with_members id t (Some ms) = made_of (table_of id t (keys ms)) (columns_said (first_place t) ms)
+abbrev pub with_members : Text → Text → TypeSaid → Option Members → Said SaidTable
+with_members table id t None = refused reasons.NotAnObject
+with_members table id t (Some ms) = made_of (table_of table id t (keys ms)) (columns_said (first_place t) ms)
 
-abbrev pub with_type : Text → Json → TypeSaid → Said SaidTable
-with_type id j t = under (at_key (codes "columns")) (with_members id t (as_object j))
+abbrev pub with_type : Text → Text → Json → TypeSaid → Said SaidTable
+with_type table id j t = under (at_key (codes "columns")) (with_members table id t (as_object j))
 
-abbrev pub with_id : Json → Json → Text → Said SaidTable
-with_id t j id = and_then (with_type id j) (under (at_key (codes "type")) (type_said t))
+abbrev pub with_id : Text → Json → Json → Text → Said SaidTable
+with_id table t j id = and_then (with_type table id j) (under (at_key (codes "type")) (type_said t))
 
-abbrev pub table_parts : Json × Json × Json → Said SaidTable
-table_parts p = and_then (with_id p.1 p.2) (text_under (codes "id") p.0)
+abbrev pub with_table : Json → Json → Json → Text → Said SaidTable
+with_table id t j table = and_then (with_id table t j) (name_under (codes "id") id)
 
--- an object of an id, of a type and of columns
+abbrev pub table_parts : Json × Json × Json × Json → Said SaidTable
+table_parts p = and_then (with_table p.1 p.2 p.3) (name_under (codes "table") p.0)
+
+-- an object of a table's name, of an id, of a type and of columns
 abbrev pub table_said : Json → Said SaidTable
-table_said j = and_then table_parts (three_at (codes "id") (codes "type") (codes "columns") j)
+table_said j =
+    and_then table_parts (four_at (codes "table") (codes "id") (codes "type") (codes "columns") j)

@@ -48,21 +48,23 @@ two_counted k l j (Some n) = two_found k l n (get k j) (get l j)
 abbrev pub two_at : Text → Text → Json → Said (Json × Json)
 two_at k l j = two_counted k l j (member_count j)
 
--- ---- three members
+-- ---- four members
 
-abbrev pub three_found : Text → Text → Text → ℕ → Option Json → Option Json → Option Json → Said (Json × Json × Json)
-three_found k l m n None b c = missing k
-three_found k l m n (Some a) None c = missing l
-three_found k l m n (Some a) (Some b) None = missing m
-three_found k l m n (Some a) (Some b) (Some c) = exactly 3 n (a, b, c)
+abbrev pub four_found : Text → Text → Text → Text → ℕ → Option Json → Option Json → Option Json → Option Json
+    → Said (Json × Json × Json × Json)
+four_found k l m o n None b c d = missing k
+four_found k l m o n (Some a) None c d = missing l
+four_found k l m o n (Some a) (Some b) None d = missing m
+four_found k l m o n (Some a) (Some b) (Some c) None = missing o
+four_found k l m o n (Some a) (Some b) (Some c) (Some d) = exactly 4 n (a, b, c, d)
 
-abbrev pub three_counted : Text → Text → Text → Json → Option ℕ → Said (Json × Json × Json)
-three_counted k l m j None = refused reasons.NotAnObject
-three_counted k l m j (Some n) = three_found k l m n (get k j) (get l j) (get m j)
+abbrev pub four_counted : Text → Text → Text → Text → Json → Option ℕ → Said (Json × Json × Json × Json)
+four_counted k l m o j None = refused reasons.NotAnObject
+four_counted k l m o j (Some n) = four_found k l m o n (get k j) (get l j) (get m j) (get o j)
 
--- what stands at these three keys, the only ones that the object has
-abbrev pub three_at : Text → Text → Text → Json → Said (Json × Json × Json)
-three_at k l m j = three_counted k l m j (member_count j)
+-- what stands at these four keys, the only ones that the object has
+abbrev pub four_at : Text → Text → Text → Text → Json → Said (Json × Json × Json × Json)
+four_at k l m o j = four_counted k l m o j (member_count j)
 
 -- ---- texts
 

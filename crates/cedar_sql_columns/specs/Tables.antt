@@ -37,7 +37,8 @@ types_view (rows.Several n) = of_several n
 
 abbrev pub table_view : SqlTable → SaidTable
 table_view t = record {
-  names = map rc_str_bytes t.names.items;
+  table = rc_str_bytes t.names.table;
+  names = map rc_str_bytes t.names.columns.items;
   id = t.columns.id;
   types = types_view t.columns.entity_type;
   attributes = map column_view t.columns.attributes.items;

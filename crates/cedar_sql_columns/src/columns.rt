@@ -11,6 +11,7 @@ ghost use Rattle.cedar_sql_columns.specs.Said as says;
 ghost use Rattle.cedar_sql_columns.specs.Tables.{column_view, held_view, operand_view};
 
 use crate::errors::{ColumnsError, RefusalReason};
+use crate::names::checked_name;
 use crate::shapes::{array, one_member, text, text_at, two_members};
 use cedar_filter::Operand;
 use cedar_names::shared::same_text;
@@ -73,9 +74,28 @@ fn put_column(
     ensures refused { IfErr result
         (IsRefusal (says.one_more_said (map column_view columns.old.items) place key.now (value_view value.now))) }
 {
-    match read_new_column(alloc, value, place, columns) {
+    match read_named_column(alloc, key, value, place, columns) {
         Ok(column) => push_column(column, columns),
         Err(error) => Err(error.under_key(alloc, key)),
+    }
+}
+
+// A column of this name, whose attribute none of these columns holds.
+fn read_named_column(
+    alloc: Global,
+    name: &str,
+    value: &Value<'_>,
+    place: usize,
+    columns: &Vec<Column>,
+) -> Result<Column, ColumnsError>
+    ensures said { IfOk result (λ c. says.named_column_said (map column_view columns.now.items) place name.now
+        (value_view value.now) ≡ Ok (column_view c)) }
+    ensures refused { IfErr result (IsRefusal
+        (says.named_column_said (map column_view columns.now.items) place name.now (value_view value.now))) }
+{
+    match checked_name(alloc, name) {
+        Ok(_) => read_new_column(alloc, value, place, columns),
+        Err(error) => Err(error),
     }
 }
 

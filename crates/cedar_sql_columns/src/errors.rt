@@ -27,6 +27,12 @@ pub enum RefusalReason {
     UnexpectedMember,
     /// A member that the object must have.
     MissingMember,
+    /// An empty name of a table or a column.
+    EmptyName,
+    /// A name with a NUL, which no text of SQL can have.
+    NulInName,
+    /// A name with a `.`, as `d.size`: the table and the column are named apart, and a table without its database.
+    PointInName,
 }
 
 /// Why JSON was not read.
@@ -138,6 +144,11 @@ impl fmt::Display for RefusalReason {
             RefusalReason::DuplicateAttribute => f.write_str("duplicate attribute"),
             RefusalReason::UnexpectedMember => f.write_str("a member too many"),
             RefusalReason::MissingMember => f.write_str("missing"),
+            RefusalReason::EmptyName => f.write_str("an empty name"),
+            RefusalReason::NulInName => f.write_str("a NUL in a name"),
+            RefusalReason::PointInName => f.write_str(
+                "a `.` in a name: each name stands alone, that of the table, or its alias, at `table`",
+            ),
         }
     }
 }

@@ -145,51 +145,60 @@ pub(crate) fn missing(alloc: Global, key: &str) -> ColumnsError
     ColumnsError::refusal_at(alloc, key, RefusalReason::MissingMember)
 }
 
-// ---- three members
+// ---- four members
 
-/// What stands at these three keys, where the value is an object that has no others.
-pub(crate) fn three_members<'v, 'a>(
+/// What stands at these four keys, where the value is an object that has no others.
+pub(crate) fn four_members<'v, 'a>(
     alloc: Global,
     value: &'v Value<'a>,
     first_key: &str,
     second_key: &str,
     third_key: &str,
-) -> Result<(&'v Value<'a>, &'v Value<'a>, &'v Value<'a>), ColumnsError>
+    fourth_key: &str,
+) -> Result<(&'v Value<'a>, &'v Value<'a>, &'v Value<'a>, &'v Value<'a>), ColumnsError>
     ensures said { IfOk result
-        (λ p. shape.three_at first_key.now second_key.now third_key.now (value_view value.now)
-        ≡ Ok (value_view p.0.now, value_view p.1.now, value_view p.2.now)) }
-    ensures refused { IfErr result
-        (IsRefusal (shape.three_at first_key.now second_key.now third_key.now (value_view value.now))) }
+        (λ p. shape.four_at first_key.now second_key.now third_key.now fourth_key.now (value_view value.now)
+        ≡ Ok (value_view p.0.now, value_view p.1.now, value_view p.2.now, value_view p.3.now)) }
+    ensures refused { IfErr result (IsRefusal
+        (shape.four_at first_key.now second_key.now third_key.now fourth_key.now (value_view value.now))) }
 {
     match member_count(value) {
-        Some(count) => three_found(alloc, value, count, first_key, second_key, third_key),
+        Some(count) => four_found(
+            alloc, value, count, first_key, second_key, third_key, fourth_key,
+        ),
         None => Err(ColumnsError::refusal(alloc, RefusalReason::NotAnObject)),
     }
 }
 
-fn three_found<'v, 'a>(
+fn four_found<'v, 'a>(
     alloc: Global,
     value: &'v Value<'a>,
     count: usize,
     first_key: &str,
     second_key: &str,
     third_key: &str,
-) -> Result<(&'v Value<'a>, &'v Value<'a>, &'v Value<'a>), ColumnsError>
-    ensures said { IfOk result (λ p. shape.three_found first_key.now second_key.now third_key.now count
+    fourth_key: &str,
+) -> Result<(&'v Value<'a>, &'v Value<'a>, &'v Value<'a>, &'v Value<'a>), ColumnsError>
+    ensures said { IfOk result
+        (λ p. shape.four_found first_key.now second_key.now third_key.now fourth_key.now count
         (get first_key.now (value_view value.now)) (get second_key.now (value_view value.now))
-        (get third_key.now (value_view value.now))
-        ≡ Ok (value_view p.0.now, value_view p.1.now, value_view p.2.now)) }
-    ensures refused { IfErr result (IsRefusal (shape.three_found first_key.now second_key.now third_key.now count
+        (get third_key.now (value_view value.now)) (get fourth_key.now (value_view value.now))
+        ≡ Ok (value_view p.0.now, value_view p.1.now, value_view p.2.now, value_view p.3.now)) }
+    ensures refused { IfErr result (IsRefusal
+        (shape.four_found first_key.now second_key.now third_key.now fourth_key.now count
         (get first_key.now (value_view value.now)) (get second_key.now (value_view value.now))
-        (get third_key.now (value_view value.now)))) }
+        (get third_key.now (value_view value.now)) (get fourth_key.now (value_view value.now)))) }
 {
     match value.get(first_key) {
         Some(first) => match value.get(second_key) {
             Some(second) => match value.get(third_key) {
-                Some(third) => if count == 3 {
-                    Ok((first, second, third))
-                } else {
-                    Err(ColumnsError::refusal(alloc, RefusalReason::UnexpectedMember))
+                Some(third) => match value.get(fourth_key) {
+                    Some(fourth) => if count == 4 {
+                        Ok((first, second, third, fourth))
+                    } else {
+                        Err(ColumnsError::refusal(alloc, RefusalReason::UnexpectedMember))
+                    },
+                    None => Err(missing(alloc, fourth_key)),
                 },
                 None => Err(missing(alloc, third_key)),
             },

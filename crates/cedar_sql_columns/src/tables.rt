@@ -12,8 +12,9 @@ ghost use Rattle.cedar_sql_columns.specs.Tables.{column_view, types_view, table_
 
 use crate::columns::{read_columns, type_named};
 use crate::errors::{ColumnsError, RefusalReason};
-use crate::shapes::{object, one_member, text_at, three_members};
-use cedar_sql::{Column, Columns, RowType};
+use crate::names::name_at;
+use crate::shapes::{four_members, object, one_member};
+use cedar_sql::{Column, Columns, RowType, TableNames};
 use json::Value;
 use std::alloc::Global;
 use std::rc::RcStr;
@@ -23,8 +24,8 @@ use std::rc::RcStr;
 pub struct SqlTable {
     /// Which columns hold what.
     pub columns: Columns,
-    /// The name of the column at each place, from `rowid` on, as `term_to_sql` of `cedar_sql` takes them.
-    pub names: Vec<RcStr>,
+    /// What the table is called, and the column at each place, from `rowid` on, as `term_to_sql` of `cedar_sql` takes them.
+    pub names: TableNames,
 }
 
 /// The type of all entities, or the name of the column that holds the type of each.
@@ -34,61 +35,84 @@ pub(crate) enum TypeNamed<'a> {
     HeldIn(&'a str),
 }
 
-/// The table that an object of an `id`, a `type` and `columns` says.
+/// The table that an object of a `table`, an `id`, a `type` and `columns` says.
 pub(crate) fn read_table(alloc: Global, value: &Value<'_>) -> Result<SqlTable, ColumnsError>
     ensures said { IfOk result (λ t. says.table_said (value_view value.now) ≡ Ok (table_view t)) }
     ensures refused { IfErr result (IsRefusal (says.table_said (value_view value.now))) }
 {
-    match three_members(alloc, value, "id", "type", "columns") {
-        Ok((id, ty, columns)) => table_of(alloc, id, ty, columns),
+    match four_members(alloc, value, "table", "id", "type", "columns") {
+        Ok((table, id, ty, columns)) => table_of(alloc, table, id, ty, columns),
         Err(error) => Err(error),
     }
 }
 
 fn table_of(
     alloc: Global,
+    table: &Value<'_>,
     id: &Value<'_>,
     ty: &Value<'_>,
     columns: &Value<'_>,
 ) -> Result<SqlTable, ColumnsError>
-    ensures said { IfOk result (λ t. says.table_parts (value_view id.now, value_view ty.now, value_view columns.now)
-        ≡ Ok (table_view t)) }
-    ensures refused { IfErr result
-        (IsRefusal (says.table_parts (value_view id.now, value_view ty.now, value_view columns.now))) }
+    ensures said { IfOk result (λ t. says.table_parts
+        (value_view table.now, value_view id.now, value_view ty.now, value_view columns.now) ≡ Ok (table_view t)) }
+    ensures refused { IfErr result (IsRefusal (says.table_parts
+        (value_view table.now, value_view id.now, value_view ty.now, value_view columns.now))) }
 {
-    match text_at(alloc, "id", id) {
-        Ok(id) => with_id(alloc, id, ty, columns),
+    match name_at(alloc, "table", table) {
+        Ok(table) => with_table(alloc, table, id, ty, columns),
+        Err(error) => Err(error),
+    }
+}
+
+fn with_table(
+    alloc: Global,
+    table: &str,
+    id: &Value<'_>,
+    ty: &Value<'_>,
+    columns: &Value<'_>,
+) -> Result<SqlTable, ColumnsError>
+    ensures said { IfOk result (λ t. says.with_table (value_view id.now) (value_view ty.now)
+        (value_view columns.now) table.now ≡ Ok (table_view t)) }
+    ensures refused { IfErr result (IsRefusal
+        (says.with_table (value_view id.now) (value_view ty.now) (value_view columns.now) table.now)) }
+{
+    match name_at(alloc, "id", id) {
+        Ok(id) => with_id(alloc, table, id, ty, columns),
         Err(error) => Err(error),
     }
 }
 
 fn with_id(
     alloc: Global,
+    table: &str,
     id: &str,
     ty: &Value<'_>,
     columns: &Value<'_>,
 ) -> Result<SqlTable, ColumnsError>
     ensures said { IfOk result
-        (λ t. says.with_id (value_view ty.now) (value_view columns.now) id.now ≡ Ok (table_view t)) }
-    ensures refused { IfErr result (IsRefusal (says.with_id (value_view ty.now) (value_view columns.now) id.now)) }
+        (λ t. says.with_id table.now (value_view ty.now) (value_view columns.now) id.now ≡ Ok (table_view t)) }
+    ensures refused { IfErr result
+        (IsRefusal (says.with_id table.now (value_view ty.now) (value_view columns.now) id.now)) }
 {
     match type_at(alloc, ty) {
-        Ok(ty) => with_type(alloc, id, ty, columns),
+        Ok(ty) => with_type(alloc, table, id, ty, columns),
         Err(error) => Err(error),
     }
 }
 
 fn with_type(
     alloc: Global,
+    table: &str,
     id: &str,
     ty: TypeNamed<'_>,
     columns: &Value<'_>,
 ) -> Result<SqlTable, ColumnsError>
     ensures said { IfOk result
-        (λ t. says.with_type id.now (value_view columns.now) (type_view ty.entry) ≡ Ok (table_view t)) }
-    ensures refused { IfErr result (IsRefusal (says.with_type id.now (value_view columns.now) (type_view ty.entry))) }
+        (λ t. says.with_type table.now id.now (value_view columns.now) (type_view ty.entry) ≡ Ok (table_view t)) }
+    ensures refused { IfErr result
+        (IsRefusal (says.with_type table.now id.now (value_view columns.now) (type_view ty.entry))) }
 {
-    match with_columns(alloc, id, ty, columns) {
+    match with_columns(alloc, table, id, ty, columns) {
         Ok(table) => Ok(table),
         Err(error) => Err(error.under_key(alloc, "columns")),
     }
@@ -96,35 +120,38 @@ fn with_type(
 
 fn with_columns(
     alloc: Global,
+    table: &str,
     id: &str,
     ty: TypeNamed<'_>,
     columns: &Value<'_>,
 ) -> Result<SqlTable, ColumnsError>
-    ensures said { IfOk result (λ t. says.with_members id.now (type_view ty.entry) (as_object (value_view columns.now))
+    ensures said { IfOk result
+        (λ t. says.with_members table.now id.now (type_view ty.entry) (as_object (value_view columns.now))
         ≡ Ok (table_view t)) }
     ensures refused { IfErr result
-        (IsRefusal (says.with_members id.now (type_view ty.entry) (as_object (value_view columns.now)))) }
+        (IsRefusal (says.with_members table.now id.now (type_view ty.entry) (as_object (value_view columns.now)))) }
 {
     match object(columns) {
-        Some(members) => with_members(alloc, id, ty, members),
+        Some(members) => with_members(alloc, table, id, ty, members),
         None => Err(ColumnsError::refusal(alloc, RefusalReason::NotAnObject)),
     }
 }
 
 fn with_members<'a>(
     alloc: Global,
+    table: &str,
     id: &str,
     ty: TypeNamed<'_>,
     members: &Vec<(&'a str, Value<'a>)>,
 ) -> Result<SqlTable, ColumnsError>
     ensures said { IfOk result
-        (λ t. says.with_members id.now (type_view ty.entry) (Some (members_view members.now.items))
+        (λ t. says.with_members table.now id.now (type_view ty.entry) (Some (members_view members.now.items))
         ≡ Ok (table_view t)) }
-    ensures refused { IfErr result
-        (IsRefusal (says.with_members id.now (type_view ty.entry) (Some (members_view members.now.items)))) }
+    ensures refused { IfErr result (IsRefusal
+        (says.with_members table.now id.now (type_view ty.entry) (Some (members_view members.now.items)))) }
 {
     match read_columns(alloc, members, first_place(ty)) {
-        Ok(attributes) => named_table(alloc, id, ty, members, attributes),
+        Ok(attributes) => named_table(alloc, table, id, ty, members, attributes),
         Err(error) => Err(error),
     }
 }
@@ -142,13 +169,14 @@ fn first_place(ty: TypeNamed<'_>) -> usize
 
 fn named_table<'a>(
     alloc: Global,
+    table: &str,
     id: &str,
     ty: TypeNamed<'_>,
     members: &Vec<(&'a str, Value<'a>)>,
     attributes: Vec<Column>,
 ) -> Result<SqlTable, ColumnsError>
     ensures said { IfOk result (λ t. table_view t
-        ≡ says.table_of id.now (type_view ty.entry) (keys (members_view members.now.items))
+        ≡ says.table_of table.now id.now (type_view ty.entry) (keys (members_view members.now.items))
         (map column_view attributes.items)) }
     ensures memory { IfErr result IsMemory }
 {
@@ -159,7 +187,7 @@ fn named_table<'a>(
                 entity_type,
                 attributes,
             };
-            with_names(alloc, id, ty, members, columns)
+            with_names(alloc, table, id, ty, members, columns)
         }
         Err(error) => {
             drop(attributes);
@@ -170,17 +198,19 @@ fn named_table<'a>(
 
 fn with_names<'a>(
     alloc: Global,
+    table: &str,
     id: &str,
     ty: TypeNamed<'_>,
     members: &Vec<(&'a str, Value<'a>)>,
     columns: Columns,
 ) -> Result<SqlTable, ColumnsError>
     ensures columns { IfOk result (λ t. t.columns ≡ columns) }
-    ensures names { IfOk result (λ t. map rc_str_bytes t.names.items ≡ codes "rowid" ∷ id.now
+    ensures table { IfOk result (λ t. rc_str_bytes t.names.table ≡ table.now) }
+    ensures names { IfOk result (λ t. map rc_str_bytes t.names.columns.items ≡ codes "rowid" ∷ id.now
         ∷ (says.type_names (type_view ty.entry) ++ keys (members_view members.now.items))) }
     ensures memory { IfErr result IsMemory }
 {
-    match all_names(alloc, id, ty, members) {
+    match all_names(alloc, table, id, ty, members) {
         Ok(names) => Ok(SqlTable { columns, names }),
         Err(error) => {
             drop(columns);
@@ -247,11 +277,11 @@ fn type_column<'a>(alloc: Global, value: &Value<'a>) -> Result<TypeNamed<'a>, Co
 
 fn column_named<'a>(alloc: Global, value: &Value<'a>) -> Result<TypeNamed<'a>, ColumnsError>
     ensures said { IfOk result
-        (λ t. made_of says.held_in (says.text_under (codes "column") (value_view value.now)) ≡ Ok (type_view t)) }
+        (λ t. made_of says.held_in (says.name_under (codes "column") (value_view value.now)) ≡ Ok (type_view t)) }
     ensures refused { IfErr result
-        (IsRefusal (made_of says.held_in (says.text_under (codes "column") (value_view value.now)))) }
+        (IsRefusal (made_of says.held_in (says.name_under (codes "column") (value_view value.now)))) }
 {
-    match text_at(alloc, "column", value) {
+    match name_at(alloc, "column", value) {
         Ok(name) => Ok(TypeNamed::HeldIn(name)),
         Err(error) => Err(error),
     }
@@ -260,6 +290,38 @@ fn column_named<'a>(alloc: Global, value: &Value<'a>) -> Result<TypeNamed<'a>, C
 // ---- names
 
 fn all_names<'a>(
+    alloc: Global,
+    table: &str,
+    id: &str,
+    ty: TypeNamed<'_>,
+    members: &Vec<(&'a str, Value<'a>)>,
+) -> Result<TableNames, ColumnsError>
+    ensures table { IfOk result (λ n. rc_str_bytes n.table ≡ table.now) }
+    ensures columns { IfOk result (λ n. map rc_str_bytes n.columns.items ≡ codes "rowid" ∷ id.now
+        ∷ (says.type_names (type_view ty.entry) ++ keys (members_view members.now.items))) }
+    ensures memory { IfErr result IsMemory }
+{
+    match column_names(alloc, id, ty, members) {
+        Ok(columns) => with_name(alloc, table, columns),
+        Err(error) => Err(error),
+    }
+}
+
+fn with_name(alloc: Global, table: &str, columns: Vec<RcStr>) -> Result<TableNames, ColumnsError>
+    ensures table { IfOk result (λ n. rc_str_bytes n.table ≡ table.now) }
+    ensures columns { IfOk result (λ n. n.columns ≡ columns) }
+    ensures memory { IfErr result IsMemory }
+{
+    match RcStr::from_str(alloc, table) {
+        Ok(table) => Ok(TableNames { table, columns }),
+        Err(error) => {
+            drop(columns);
+            Err(ColumnsError::Memory(error))
+        }
+    }
+}
+
+fn column_names<'a>(
     alloc: Global,
     id: &str,
     ty: TypeNamed<'_>,

@@ -14,8 +14,8 @@ use json::{Error, Scratch, Value};
 use std::alloc::{AllocError, Global};
 
 /// The table that the text says. `Syntax` where the text is no JSON or nests deeper than 128 levels, `DuplicateKey` where
-/// an object of it has a key twice; else the first refusal, in the order of `id`, `type` and `columns`, and in a column in
-/// the order of `attribute` and `holds`; a member too many is refused before what the others hold.
+/// an object of it has a key twice; else the first refusal, in the order of `table`, `id`, `type` and `columns`, and in a
+/// column in the order of its name, `attribute` and `holds`; a member too many is refused before what the others hold.
 pub fn sql_table_from_json_str(alloc: Global, text: &str) -> Result<SqlTable, ColumnsError>
     ensures said { IfOk result (λ t. Says text.now table_said (table_view t)) }
     ensures refused { IfErr result (IsTextRefusal text.now table_said) }

@@ -18,7 +18,7 @@ use Rattle.cedar_sql.specs.declared.terms.SqlTerm.TheVariants as terms
 use Rattle.cedar_sql.specs.Columns.{Represents}
 use Rattle.cedar_sql.specs.Terms.{row_env, sql_term, number}
 use Rattle.cedar_sql_plan.specs.Said.{some_said}
-use Rattle.cedar_sql_plan.specs.Meaning.{IsTruthOn, IsCount, IsCountOf, is_known, some_may, permitted, but_not}
+use Rattle.cedar_sql_plan.specs.Meaning.{IsTruthOn, IsCount, IsCountOf, is_known, some_may, permitted, permitted_row, but_not}
 use Rattle.cedar_sql_plan.specs.Meaning.{IsAllowedTerm, IsCandidateTerm, ShowsAllowed, LeavesOutDenied}
 use Rattle.cedar_sql_plan.proofs.Truths.{but_not_truth}
 use Rattle.cedar_sql_plan.proofs.Deciding.{is_allowed_term, is_candidate_term}
@@ -75,22 +75,22 @@ module _ (columns : Columns) (p : Plan) where
   each_permitted may_be s t (Ok u) permits forbids same = permitted_is may_be (sql_term s) (sql_term t) (sql_term u) permits forbids same
   each_permitted may_be s t (Err e) permits forbids same = tt
 
-  pub each_allowed : (r : Result SqlTerm AllocError) → IfOk r (λ t. IsTruthOn columns (permitted columns p false) (sql_term t))
+  pub each_allowed : (r : Result SqlTerm AllocError) → IfOk r (λ t. IsTruthOn columns (permitted_row columns p false) (sql_term t))
       → IfOk r (λ t. IsAllowedTerm p columns (sql_term t))
   each_allowed (Ok t) is = is_allowed_term columns p (sql_term t) is
   each_allowed (Err e) is = tt
 
-  pub each_candidate : (r : Result SqlTerm AllocError) → IfOk r (λ t. IsTruthOn columns (permitted columns p true) (sql_term t))
+  pub each_candidate : (r : Result SqlTerm AllocError) → IfOk r (λ t. IsTruthOn columns (permitted_row columns p true) (sql_term t))
       → IfOk r (λ t. IsCandidateTerm p columns (sql_term t))
   each_candidate (Ok t) is = is_candidate_term columns p (sql_term t) is
   each_candidate (Err e) is = tt
 
-  pub each_shown : (r : Result SqlTerm AllocError) → IfOk r (λ t. IsTruthOn columns (permitted columns p false) (sql_term t))
+  pub each_shown : (r : Result SqlTerm AllocError) → IfOk r (λ t. IsTruthOn columns (permitted_row columns p false) (sql_term t))
       → IfOk r (λ t. ShowsAllowed p columns (sql_term t))
   each_shown (Ok t) is = shows_allowed p columns (sql_term t) (is_allowed_term columns p (sql_term t) is)
   each_shown (Err e) is = tt
 
-  pub each_left_out : (r : Result SqlTerm AllocError) → IfOk r (λ t. IsTruthOn columns (permitted columns p true) (sql_term t))
+  pub each_left_out : (r : Result SqlTerm AllocError) → IfOk r (λ t. IsTruthOn columns (permitted_row columns p true) (sql_term t))
       → IfOk r (λ t. LeavesOutDenied p columns (sql_term t))
   each_left_out (Ok t) is = leaves_out_denied p columns (sql_term t) (is_candidate_term columns p (sql_term t) is)
   each_left_out (Err e) is = tt

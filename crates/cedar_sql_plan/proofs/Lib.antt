@@ -3,3 +3,4 @@ pub mod Counting
 pub mod Deciding
 pub mod Telling
 pub mod Truths
+pub mod Typing

@@ -39,8 +39,8 @@ use Rattle.cedar_sql.specs.Said.{unsaid, condition_sql}
 use Rattle.cedar_sql.specs.Terms.{row_env}
 use Rattle.cedar_sql.specs.Meaning.{told_value}
 use Rattle.cedar_sql.proofs.Whole.{is_sql, filter_is_sql}
-use Rattle.cedar_sql_plan.specs.Said.{is_said, some_unsaid, said_counts, some_said, some_count, some_open, said_decision}
-use Rattle.cedar_sql_plan.specs.Said.{filter_told, is_allow, is_deny}
+use Rattle.cedar_sql_plan.specs.Said.{is_said, some_unsaid, said_counts, some_said, some_count, some_open, decision_by_said}
+use Rattle.cedar_sql_plan.specs.Said.{said_decision, filter_told, is_allow, is_deny}
 use Rattle.cedar_sql_plan.specs.Meaning.{ShowsAllowed, LeavesOutDenied, IsAllowedTerm, IsCandidateTerm}
 use Rattle.cedar_sql_plan.specs.Telling.{SaidIsTold, IsSaidIfFilter, AreSaid, SaidIsAllThatIsTold}
 use Rattle.cedar_sql_plan.proofs.Truths.{told_there}
@@ -230,9 +230,17 @@ module _ (columns : Columns) (row : Row) (e : EntityName) (x : StoredEntity) (re
 
 -- ---- plans
 
+-- a decision that is given where this holds
+given_where : (can : Bool) (q : Option model.Decision) (d : model.Decision) → cond can q None ≡ Some d
+    → (can ≡ true) × (q ≡ Some d)
+given_where true q d is = (refl, is)
+given_where false q d is = absurd (cc)
+
 module _ (p : Plan) (columns : Columns) where
-  pub said_is_told : SaidIsTold p columns
-  said_is_told row e x represents can d is r plan =
+  told_where_can : (row : Row) (e : EntityName) (x : StoredEntity) → Represents columns row e x
+      → can_stand_for (row_type p) e ≡ true → (d : model.Decision) → decision_by_said columns p e x ≡ Some d
+      → IsToldOf p e x (Some d)
+  told_where_can row e x represents can d is r plan =
       let n = row_name p in
       let a = row_type p in
       let permits = are_of_plan columns row e x represents n a can (residuals_in (plan_permits p)) _ plan.permits.asked in
@@ -243,14 +251,21 @@ module _ (p : Plan) (columns : Columns) where
       (agrees columns row e x represents n a can false (plan_permits p) permits)
       (agrees columns row e x represents n a can errs (plan_forbids p) forbids) is)) r plan
 
-  pub said_is_all_that_is_told : SaidIsAllThatIsTold p columns
-  said_is_all_that_is_told permits_said forbids_said row e x represents can r plan =
+  pub said_is_told : SaidIsTold p columns
+  said_is_told row e x represents d is =
+      let given = given_where (can_stand_for (row_type p) e) (decision_by_said columns p e x) d is in
+      told_where_can row e x represents given.0 d given.1
+
+  all_told_where_can : AreSaid columns (residuals_in (plan_permits p)) → AreSaid columns (residuals_in (plan_forbids p))
+      → (row : Row) (e : EntityName) (x : StoredEntity) → Represents columns row e x
+      → can_stand_for (row_type p) e ≡ true → IsToldOf p e x (decision_by_said columns p e x)
+  all_told_where_can permits_said forbids_said row e x represents can r plan =
       let n = row_name p in
       let a = row_type p in
       let permits = are_of_plan columns row e x represents n a can (residuals_in (plan_permits p)) _ plan.permits.asked in
       let forbids = are_of_plan columns row e x represents n a can (residuals_in (plan_forbids p)) _ plan.forbids.asked in
       let errs = errs_count (plan_mode p) forbid in
-      answering.told p e x (said_decision columns p e x) _ _ _ _ can
+      answering.told p e x (decision_by_said columns p e x) _ _ _ _ can
       (ap (λ (b : Bool). some_of (satisfied_in (plan_permits p)) || b)
       (sym (exact_count columns row e x represents n a can false (residuals_in (plan_permits p)) permits permits_said)))
       (sym (exact_open columns row e x represents n a can false (residuals_in (plan_permits p)) permits permits_said))
@@ -258,6 +273,16 @@ module _ (p : Plan) (columns : Columns) where
       (sym (exact_count columns row e x represents n a can errs (residuals_in (plan_forbids p)) forbids forbids_said)))
       (sym (exact_open columns row e x represents n a can errs (residuals_in (plan_forbids p)) forbids forbids_said))
       refl r plan
+
+  by_type : (e : EntityName) (x : StoredEntity) (can : Bool) (q : Option model.Decision)
+      → can_stand_for (row_type p) e ≡ can → (can ≡ true → IsToldOf p e x q) → IsToldOf p e x (cond can q None)
+  by_type e x true q is told = told refl
+  by_type e x false q is told = answering.nothing_told p e x is
+
+  pub said_is_all_that_is_told : SaidIsAllThatIsTold p columns
+  said_is_all_that_is_told permits_said forbids_said row e x represents =
+      by_type e x (can_stand_for (row_type p) e) (decision_by_said columns p e x) refl
+      (all_told_where_can permits_said forbids_said row e x represents)
 
   -- ---- rows that are shown, and rows that are left out
 
@@ -279,15 +304,22 @@ module _ (p : Plan) (columns : Columns) where
   deny_given (Some deny) is = refl
 
   pub shows_allowed : (t : Term) → IsAllowedTerm p columns t → ShowsAllowed p columns t
-  shows_allowed t is parameters row later e x represents can shown =
+  shows_allowed t is parameters row later e x represents shown =
       let allowed = allow_given (said_decision columns p e x)
       (same_truth (is_allow (said_decision columns p e x)) true (sym (is parameters row later e x represents) ∙ shown)) in
-      let told = said_is_told row e x represents can allow allowed in
-      (told, answering.decides p e x (Some decisions.Allow) told)
+      let given = given_where (can_stand_for (row_type p) e) (decision_by_said columns p e x) allow allowed in
+      let told = said_is_told row e x represents allow allowed in
+      (given.0, told, answering.decides p e x (Some decisions.Allow) told)
+
+  not_denied : (can denied : Bool) → can ≡ true → (can && not denied) ≡ false → not denied ≡ false
+  not_denied true denied can is = is
+  not_denied false denied can is = absurd (cc)
 
   pub leaves_out_denied : (t : Term) → IsCandidateTerm p columns t → LeavesOutDenied p columns t
   leaves_out_denied t is parameters row later e x represents can left_out =
       let denied = deny_given (said_decision columns p e x)
-      (same_truth (not (is_deny (said_decision columns p e x))) false (sym (is parameters row later e x represents) ∙ left_out)) in
-      let told = said_is_told row e x represents can deny denied in
+      (not_denied (can_stand_for (row_type p) e) (is_deny (said_decision columns p e x)) can
+      (same_truth (can_stand_for (row_type p) e && not (is_deny (said_decision columns p e x))) false
+      (sym (is parameters row later e x represents) ∙ left_out))) in
+      let told = said_is_told row e x represents deny denied in
       (told, answering.decides p e x (Some decisions.Deny) told)

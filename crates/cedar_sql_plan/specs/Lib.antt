@@ -1,3 +1,4 @@
 pub mod Meaning
 pub mod Said
 pub mod Telling
+pub mod Types

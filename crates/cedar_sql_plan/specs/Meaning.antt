@@ -77,25 +77,31 @@ permitted columns p may_be e x =
     some_may columns false may_be (plan_permits p) e x
     && not (some_may columns (errs_count (plan_mode p) forbid) (not may_be) (plan_forbids p) e x)
 
+-- the same of entities that can stand for the unknown
+abbrev pub permitted_row : Columns → Plan → Bool → EntityName → StoredEntity → Bool
+permitted_row columns p may_be e x = can_stand_for (row_type p) e && permitted columns p may_be e x
+
 abbrev pub but_not : Term → Term → Term
 but_not s t = op2 by.And s (op1 Not t)
 
--- 1 exactly where the policies that are said decide Allow, whatever the others do
+-- 1 exactly on the rows that can stand for the unknown and at which the policies that are said decide Allow, whatever the
+-- others do
 abbrev pub IsAllowedTerm : Plan → Columns → Term → Type 0
 IsAllowedTerm p columns t = IsTruthOn columns (λ e x. is_allow (said_decision columns p e x)) t
 
--- 0 exactly where they decide Deny, whatever the others do
+-- 1 exactly on the rows that can stand for the unknown and at which they do not decide Deny, whatever the others do
 abbrev pub IsCandidateTerm : Plan → Columns → Term → Type 0
-IsCandidateTerm p columns t = IsTruthOn columns (λ e x. not (is_deny (said_decision columns p e x))) t
+IsCandidateTerm p columns t =
+    IsTruthOn columns (λ e x. can_stand_for (row_type p) e && not (is_deny (said_decision columns p e x))) t
 
--- where this is 1, the plan tells Allow, and so the policies decide
+-- where this is 1, the row can stand for the unknown, the plan tells Allow, and so the policies decide
 abbrev pub ShowsAllowed : Plan → Columns → Term → Type 0
 ShowsAllowed p columns t =
     (parameters row : Row) (later : List Row) (e : EntityName) (x : StoredEntity) → Represents columns row e x
-    → can_stand_for (row_type p) e ≡ true → eval t (row_env parameters row later) ≡ from_truth (Some true)
-    → IsToldOf p e x (Some allow) × DecidesAt p e x allow
+    → eval t (row_env parameters row later) ≡ from_truth (Some true)
+    → (can_stand_for (row_type p) e ≡ true) × IsToldOf p e x (Some allow) × DecidesAt p e x allow
 
--- where this is 0, the plan tells Deny, and so the policies decide
+-- where this is 0 and the row can stand for the unknown, the plan tells Deny, and so the policies decide
 abbrev pub LeavesOutDenied : Plan → Columns → Term → Type 0
 LeavesOutDenied p columns t =
     (parameters row : Row) (later : List Row) (e : EntityName) (x : StoredEntity) → Represents columns row e x

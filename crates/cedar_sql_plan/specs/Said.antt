@@ -1,5 +1,5 @@
 -- What the policies of a plan decide of an entity, as far as SQL says them on a table's columns.
-use Rattle.std.specs.Prelude.{Bool, true, false, not, ◌&&◌, ◌||◌, List, [], ◌∷◌, Option, Some, None, is_none}
+use Rattle.std.specs.Prelude.{Bool, true, false, cond, not, ◌&&◌, ◌||◌, List, [], ◌∷◌, Option, Some, None, is_none}
 use Rattle.std.specs.Rc.{rc_str_bytes}
 use Rattle.cedar_model.specs.Terms.{EntityName}
 use Rattle.cedar_model.specs.Settings.{StoredEntity}
@@ -9,12 +9,13 @@ use Rattle.cedar_decisions.specs.Decisions.{known_decision}
 use Rattle.cedar_filter.specs.declared.filters.Filter.{Filter}
 use Rattle.cedar_filter.specs.Rows.{Told, condition_told}
 use Rattle.cedar_filter.specs.Filters.{filter_row, filter_condition, filter_term}
+use Rattle.cedar_filter.specs.Faults.{can_stand_for}
 use Rattle.cedar_plan.specs.declared.conditions.RowCondition.{RowCondition}
 use Rattle.cedar_plan.specs.declared.conditions.RowCondition.TheVariants as conditions
 use Rattle.cedar_plan.specs.declared.policies.RowPolicy.{RowPolicy}
 use Rattle.cedar_plan.specs.declared.policies.PlannedPolicies.{PlannedPolicies}
 use Rattle.cedar_plan.specs.declared.plans.Plan.{Plan}
-use Rattle.cedar_plan.specs.Planned.{plan_mode, plan_permits, plan_forbids, satisfied_in, residuals_in, some_of}
+use Rattle.cedar_plan.specs.Planned.{row_type, plan_mode, plan_permits, plan_forbids, satisfied_in, residuals_in, some_of}
 use Rattle.cedar_plan.specs.Told.{errs_count, counts_as, is_counted}
 use Rattle.cedar_sql.specs.declared.columns.Columns.{Columns}
 use Rattle.cedar_sql.specs.Said.{unsaid}
@@ -59,10 +60,14 @@ module _ (columns : Columns) where
   -- ---- the decision
 
   -- the decision that they give, whatever the policies do that are not said
-  abbrev pub said_decision : Plan → EntityName → StoredEntity → Option model.Decision
-  said_decision p e x =
+  abbrev pub decision_by_said : Plan → EntityName → StoredEntity → Option model.Decision
+  decision_by_said p e x =
       known_decision (some_count false e x (plan_permits p)) (some_open (plan_permits p))
       (some_count (errs_count (plan_mode p) forbid) e x (plan_forbids p)) (some_open (plan_forbids p))
+
+  -- the same of an entity that can stand for the unknown; of another none
+  abbrev pub said_decision : Plan → EntityName → StoredEntity → Option model.Decision
+  said_decision p e x = cond (can_stand_for (row_type p) e) (decision_by_said p e x) None
 
 abbrev pub is_allow : Option model.Decision → Bool
 is_allow None = false

@@ -6,7 +6,7 @@ use cedar_sql::Columns;
 
 /// A decision that the policies give of which there is SQL is the one that the plan tells of the entity of a row
 /// (`decisions`). Where SQL says each filter of the plan, the plan tells no other (`exact`): `allowed` is 1 exactly where
-/// `allows` answers Allow, and `candidates` 0 exactly where it answers Deny.
+/// `allows` answers Allow, and `candidates` 0 exactly where it answers Deny or the entity can't stand for the unknown.
 pub fn said_is_told(plan: &Plan, columns: &Columns)
     ensures decisions { SaidIsTold plan.now columns.now }
     ensures exact { SaidIsAllThatIsTold plan.now columns.now }

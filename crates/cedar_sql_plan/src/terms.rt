@@ -3,8 +3,9 @@ ghost use Rattle.std.specs.Prelude.{◌≡◌, IfOk};
 ghost use Rattle.sqlite_sql.specs.Term.{op1, op2};
 ghost use Rattle.sqlite_sql.specs.declared.ops.UnaryOp.TheVariants.{Not};
 ghost use Rattle.sqlite_sql.specs.declared.ops.BinaryOp.TheVariants as by;
-ghost use Rattle.cedar_sql.specs.Terms.{sql_term, is_truth};
+ghost use Rattle.cedar_sql.specs.Terms.{sql_term, is_truth, equals};
 
+use cedar_filter::Comparison;
 use cedar_sql::SqlTerm;
 use std::alloc::{AllocError, Global};
 
@@ -20,6 +21,13 @@ pub(crate) fn negated(alloc: Global, part: SqlTerm) -> Result<SqlTerm, AllocErro
 {
     let part = boxed(alloc, part)?;
     Ok(SqlTerm::Not(part))
+}
+
+pub(crate) fn equal(alloc: Global, first: SqlTerm, second: SqlTerm) -> Result<SqlTerm, AllocError>
+    ensures { IfOk result (λ t. sql_term t ≡ equals (sql_term first) (sql_term second)) }
+{
+    let (first, second) = boxed_pair(alloc, first, second)?;
+    Ok(SqlTerm::Compare(Comparison::Equal, first, second))
 }
 
 pub(crate) fn both(alloc: Global, first: SqlTerm, second: SqlTerm) -> Result<SqlTerm, AllocError>

@@ -1,10 +1,11 @@
 //! Tables that SQL is asked of. The fact `columns Photo size=Long owner=User place=Record place.city=String` says that
-//! each row is a `Photo`, with the columns `rowid`, `id`, `size`, `owner`, `place` and `place.city`; `columns * ..` that
-//! the column `type`, behind `id`, has the type of each.
+//! each row of the table `t` is a `Photo`, with the columns `rowid`, `id`, `size`, `owner`, `place` and `place.city`;
+//! `columns * ..` that the column `type`, behind `id`, has the type of each; and `columns *Photo ..` that a `Photo` is asked
+//! for besides.
 use crate::answer::Unanswered;
 use crate::given::read_type;
 use cedar_filter::Operand;
-use cedar_sql::{Column, ColumnType, Columns, RowType};
+use cedar_sql::{Column, ColumnType, Columns, RowType, TableNames};
 use std::alloc::{AllocError, Global};
 use std::rc::RcStr;
 
@@ -13,8 +14,8 @@ use std::rc::RcStr;
 pub struct Table {
     /// Its columns.
     pub columns: Columns,
-    /// Their names, from the rowid on.
-    pub names: Vec<RcStr>,
+    /// Its name, and theirs, from the rowid on.
+    pub names: TableNames,
 }
 
 /// The table of the fact.
@@ -25,12 +26,30 @@ pub fn read_table(alloc: Global, fact: &str) -> Result<Table, Unanswered> {
         entity_type: read_row_type(alloc, row)?,
         attributes: read_attributes(alloc, first_place(row), words)?,
     };
-    let names = read_names(alloc, row, words)?;
+    let names = TableNames {
+        table: RcStr::from_str(alloc, "t")?,
+        columns: read_names(alloc, row, words)?,
+    };
     Ok(Table { columns, names })
 }
 
-/// What stands before the first space, and behind it.
-pub fn split_first_word(text: &str) -> (&str, &str) {
+/// The type of the row that is asked for, as it is said before the columns; none, where each is.
+pub fn asked_type(columns: &str) -> Option<&str> {
+    let (row, _) = split_first_word(columns);
+    match row.split_once('*') {
+        Some((_, "")) => None,
+        Some((_, ty)) => Some(ty),
+        None => Some(row),
+    }
+}
+
+// Whether the rows are of several types.
+fn are_several(row: &str) -> bool {
+    row.contains('*')
+}
+
+// What stands before the first space, and behind it.
+fn split_first_word(text: &str) -> (&str, &str) {
     match text.split_once(' ') {
         Some((first, rest)) => (first, rest),
         None => (text, ""),
@@ -38,7 +57,7 @@ pub fn split_first_word(text: &str) -> (&str, &str) {
 }
 
 fn read_row_type(alloc: Global, row: &str) -> Result<RowType, Unanswered> {
-    if row == "*" {
+    if are_several(row) {
         Ok(RowType::Several(2))
     } else {
         Ok(RowType::One(read_type(alloc, row)?))
@@ -47,7 +66,7 @@ fn read_row_type(alloc: Global, row: &str) -> Result<RowType, Unanswered> {
 
 // The place of the first attribute.
 fn first_place(row: &str) -> usize {
-    if row == "*" { 3 } else { 2 }
+    if are_several(row) { 3 } else { 2 }
 }
 
 fn read_attributes(alloc: Global, first: usize, words: &str) -> Result<Vec<Column>, Unanswered> {
@@ -100,7 +119,7 @@ fn read_names(alloc: Global, row: &str, words: &str) -> Result<Vec<RcStr>, Alloc
     let mut names: Vec<RcStr> = Vec::new(alloc);
     names.push(RcStr::from_str(alloc, "rowid")?)?;
     names.push(RcStr::from_str(alloc, "id")?)?;
-    if row == "*" {
+    if are_several(row) {
         names.push(RcStr::from_str(alloc, "type")?)?;
     }
     for word in words.split(' ') {

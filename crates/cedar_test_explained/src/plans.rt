@@ -1,6 +1,6 @@
 //! What is left of policies where the resource is not known, as SQL on the rows of a table: `ALLOWED | CANDIDATES`.
 use crate::answer::{Answer, Unanswered};
-use crate::columns::{Table, read_table, split_first_word};
+use crate::columns::{Table, asked_type, read_table};
 use crate::given::{LEVELS, mode_of, read_request, read_type};
 use crate::setting::Setting;
 use cedar_authorizer::authorizer::{Authorizer, PartialResponse};
@@ -43,26 +43,21 @@ fn answered(
     Ok(authorizer.is_authorized_core(alloc, request, policies, entities)?)
 }
 
-// A resource of the type of the table's rows.
+// A resource of the type that is asked for.
 fn unknown_resource(alloc: Global, setting: Setting<'_>) -> Result<EntityUIDEntry, Unanswered> {
-    let (row, _) = split_first_word(setting.columns);
-    if row == "*" {
-        Ok(EntityUIDEntry::unknown())
-    } else {
-        let ty = read_type(alloc, row)?;
-        Ok(EntityUIDEntry::unknown_with_type(ty, None))
+    match asked_type(setting.columns) {
+        None => Ok(EntityUIDEntry::unknown()),
+        Some(ty) => Ok(EntityUIDEntry::unknown_with_type(read_type(alloc, ty)?, None)),
     }
 }
 
 // The unknown that the rows stand for.
 fn read_row(alloc: Global, setting: Setting<'_>) -> Result<Unknown, Unanswered> {
-    let (row, _) = split_first_word(setting.columns);
-    let type_annotation = if row == "*" {
-        None
-    } else {
-        Some(Type::Entity {
-            ty: read_type(alloc, row)?,
-        })
+    let type_annotation = match asked_type(setting.columns) {
+        None => None,
+        Some(ty) => Some(Type::Entity {
+            ty: read_type(alloc, ty)?,
+        }),
     };
     Ok(Unknown {
         name: RcStr::from_str(alloc, "resource")?,
@@ -106,9 +101,9 @@ fn write_plan(answer: &mut Answer, setting: Setting<'_>, plan: &Plan) {
 fn put_plan(answer: &mut Answer, plan: &Plan, table: &Table) {
     match sql_of_plan(answer.alloc, plan, &table.columns) {
         Ok(terms) => {
-            answer.put_made(term_to_sql(answer.alloc, &terms.allowed, table.names.as_slice()));
+            answer.put_made(term_to_sql(answer.alloc, &terms.allowed, &table.names));
             answer.put(" | ");
-            answer.put_made(term_to_sql(answer.alloc, &terms.candidates, table.names.as_slice()));
+            answer.put_made(term_to_sql(answer.alloc, &terms.candidates, &table.names));
             drop(terms);
         }
         Err(_) => answer.fail(Unanswered::Memory),

@@ -1,4 +1,3 @@
-use Rattle.cedar_endpoints.specs.Served.{IsAuthorized}
 use Rattle.cedar_endpoints.proofs.lines.line_answer.Goals as goal
 use Rattle.std.proofs.Common.{◌≡◌, ◌++◌, codes, string_bytes}
 use Rattle.cedar_endpoints.specs.Lines.{IsLineAnswer}

@@ -10,7 +10,7 @@ returns g c =
     let all : Offers =
     offered (g.D.Decider.decides s.decider) (g.D.Decider.authorizes s.decider) (g.D.Decider.leaves s.decider)
     (finder_of (g.D.Decider.finds s.decider) (g.D.Decider.version s.decider) (g.D.Decider.count s.decider) s.page)
-    (reloads_of s.allows_reload (g.D.Decider.refuses s.decider)) (option_map string_bytes s.metadata) in
+    (reloads_of s.allows_reload (g.D.Decider.refuses s.decider)) (option_map string_bytes s.metadata) s.max_evaluations in
     served all c.args.request.now c.args.route c.as_slice.result.now c.in_ok-reply.reply c.version_text-version.result.now
     c.as_str.result.now c.send_to.new.response c.send_to.result c.requires.route (c.as_slice.ensures ∙ c.body.ensures)
     c.version_text-version.ensures c.as_str.ensures.value c.in_ok-reply.ensures c.send_to.ensures

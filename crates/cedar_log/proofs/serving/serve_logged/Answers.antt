@@ -6,7 +6,7 @@ pub returns-clause-logged : goal.returns-clause-logged
 returns-clause-logged g c =
     let calls = c.serve.ensures.calls in (
       calls.0,
-      all_logged g.S.Service.answers g.L.Write.contents calls.0 c.args.service.now c.serve.new.service calls.2,
+      all_logged g.S.Service.answers g.L.Sink.contents calls.0 c.args.service.now c.serve.new.service calls.2,
       calls.1,
     )
 

@@ -1,7 +1,8 @@
-use Rattle.std.proofs.Common.{[]}
+use Rattle.std.proofs.Common.{[], refl}
 use Rattle.std.specs.Io.Buffered.{reader_remaining}
-use Rattle.cedar_logged_lines.specs.Lines.{no_line}
-use Rattle.cedar_logged_lines.proofs.Lined.{with_line, at_the_end}
+use Rattle.std.proofs.KnownBytes.{Keeps-refl}
+use Rattle.cedar_logged_lines.specs.Lines.{no_line, nothing_more}
+use Rattle.cedar_logged_lines.proofs.Lined.{with_line, at_the_end, some_logged, some_at_the_end}
 use Rattle.cedar_logged_lines.proofs.lines.answer_logged_lines.Goals as goal
 
 pub lines-init : goal.lines-init
@@ -11,8 +12,46 @@ pub lines-preserved : goal.lines-preserved
 lines-preserved g c =
     with_line (g.D.Decider.authorizes c.args.decider.now) (g.D.Decider.version c.args.decider.now)
     (reader_remaining g.R.Read.remaining c.args.reader.now) (g.W.Write.contents c.args.writer.now)
-    (g.L.Write.contents c.args.log.now.writer) (reader_remaining g.R.Read.remaining c.lines.reader)
-    (g.W.Write.contents c.lines.writer) (g.L.Write.contents c.lines.log.writer)
+    (g.L.Sink.contents c.args.log.now.sink) (reader_remaining g.R.Read.remaining c.lines.reader)
+    (g.W.Write.contents c.lines.writer) (g.L.Sink.contents c.lines.log.sink)
     (reader_remaining g.R.Read.remaining c.answer_line.new.reader) (g.W.Write.contents c.answer_line.new.writer)
-    (g.L.Write.contents c.answer_line.new.log.writer) c.in_ok-more.more c.if-not-more.false c.in_ok-more.ensures
+    (g.L.Sink.contents c.answer_line.new.log.sink) c.in-Ok.more c.if-not-more.false c.in-Ok.ensures.step
     c.lines.invariant
+
+pub returns-then-not-more-clause-all : goal.returns-then-not-more-clause-all
+returns-then-not-more-clause-all g c =
+    at_the_end (g.D.Decider.authorizes c.args.decider.now) (g.D.Decider.version c.args.decider.now)
+    (reader_remaining g.R.Read.remaining c.args.reader.now) (g.W.Write.contents c.args.writer.now)
+    (g.L.Sink.contents c.args.log.now.sink) (reader_remaining g.R.Read.remaining c.lines.reader)
+    (g.W.Write.contents c.lines.writer) (g.L.Sink.contents c.lines.log.sink)
+    (reader_remaining g.R.Read.remaining c.answer_line.new.reader) (g.W.Write.contents c.answer_line.new.writer)
+    (g.L.Sink.contents c.answer_line.new.log.sink) (g.W.Write.contents c.flush.new.self) c.in-Ok.more
+    c.flush.result c.if-not-more.true c.in-Ok.ensures.step c.flush.ensures.bytes c.lines.invariant
+
+pub returns-then-not-more-clause-some : goal.returns-then-not-more-clause-some
+returns-then-not-more-clause-some g c =
+    some_at_the_end (g.D.Decider.authorizes c.args.decider.now) (g.D.Decider.version c.args.decider.now)
+    (reader_remaining g.R.Read.remaining c.args.reader.now) (g.W.Write.contents c.args.writer.now)
+    (g.L.Sink.contents c.args.log.now.sink) (reader_remaining g.R.Read.remaining c.lines.reader)
+    (g.W.Write.contents c.lines.writer) (g.L.Sink.contents c.lines.log.sink)
+    (reader_remaining g.R.Read.remaining c.answer_line.new.reader) (g.W.Write.contents c.answer_line.new.writer)
+    (g.L.Sink.contents c.answer_line.new.log.sink) (g.W.Write.contents c.flush.new.self) c.in-Ok.more
+    c.flush.result c.if-not-more.true c.in-Ok.ensures.step c.flush.ensures.bytes c.lines.invariant
+
+pub returns-in-Err-clause-some : goal.returns-in-Err-clause-some
+returns-in-Err-clause-some g c =
+    some_logged (g.D.Decider.authorizes c.args.decider.now) (g.D.Decider.version c.args.decider.now)
+    (reader_remaining g.R.Read.remaining c.args.reader.now) (g.W.Write.contents c.args.writer.now)
+    (g.L.Sink.contents c.args.log.now.sink) (reader_remaining g.R.Read.remaining c.lines.reader)
+    (g.W.Write.contents c.lines.writer) (g.L.Sink.contents c.lines.log.sink)
+    (g.W.Write.contents c.answer_line.new.writer) (g.L.Sink.contents c.answer_line.new.log.sink) c.lines.invariant
+    c.in-Err.ensures.cut
+
+pub returns-clause-some : goal.returns-clause-some
+returns-clause-some g c =
+    some_logged (g.D.Decider.authorizes c.args.decider.now) (g.D.Decider.version c.args.decider.now)
+    (reader_remaining g.R.Read.remaining c.args.reader.now) (g.W.Write.contents c.args.writer.now)
+    (g.L.Sink.contents c.args.log.now.sink) (reader_remaining g.R.Read.remaining c.lines.reader)
+    (g.W.Write.contents c.lines.writer) (g.L.Sink.contents c.lines.log.sink)
+    (g.W.Write.contents c.lines.writer) (g.L.Sink.contents c.lines.log.sink) c.lines.invariant
+    (nothing_more (Keeps-refl (g.W.Write.contents c.lines.writer)) refl)

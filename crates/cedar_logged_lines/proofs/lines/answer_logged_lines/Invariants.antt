@@ -6,5 +6,5 @@ use Rattle.cedar_logged_lines.proofs.lines.answer_logged_lines.Given as goal
 abbrev pub invariant-lines : goal.invariant-lines
 invariant-lines g l =
     Logged (g.D.Decider.authorizes l.fn.decider) (g.D.Decider.version l.fn.decider)
-    (reader_remaining g.R.Read.remaining l.fn.reader) (g.W.Write.contents l.fn.writer) (g.L.Write.contents l.fn.log.writer)
-    (reader_remaining g.R.Read.remaining l.reader) (g.W.Write.contents l.writer) (g.L.Write.contents l.log.writer)
+    (reader_remaining g.R.Read.remaining l.fn.reader) (g.W.Write.contents l.fn.writer) (g.L.Sink.contents l.fn.log.sink)
+    (reader_remaining g.R.Read.remaining l.reader) (g.W.Write.contents l.writer) (g.L.Sink.contents l.log.sink)

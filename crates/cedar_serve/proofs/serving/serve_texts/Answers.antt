@@ -26,6 +26,7 @@ returns-in-Ok-clause-served g c =
         metadata = c.in-Ok.ensures.metadata;
         page_is = c.in-Ok.ensures.page;
         reload_is = c.in-Ok.ensures.reload;
+        evaluations_are = c.in-Ok.ensures.evaluations;
         answered = served.answered (both_texts c.args.texts.policies.now c.args.texts.entities.now
             (ways_view c.args.texts.ways)) c.in-Ok.ensures.engine;
         sent = served.sent;

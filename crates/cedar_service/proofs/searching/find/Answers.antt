@@ -10,7 +10,7 @@ pub returns-else-has_known_context : goal.returns-else-has_known_context
 returns-else-has_known_context g c =
     let x = c.args.extensions.now in
     of_ok (IsUnfound c.refuse.result)
-    (IsPageFor (extensions_view x) (calls_of x) c.args.engine.now c.args.store.now c.args.pages.part c.args.request
+    (IsPageFor c.args.bound (extensions_view x) (calls_of x) c.args.engine.now c.args.store.now c.args.pages.part c.args.request
     c.args.pages.after c.args.pages.most)
     (λ f h. not_known (sym c.has_known_context.ensures ∙ c.if-has_known_context.false)
     (unfound_as (IsFault (codes "$.context") (codes "an unknown stands in it")) c.refuse.result f c.refuse.ensures h))

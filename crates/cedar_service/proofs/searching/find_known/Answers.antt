@@ -14,11 +14,11 @@ returns g c =
     let s = c.args.store.now in
     let part = c.args.pages.part in
     of_ok
-    (IsListed (question_of (extensions_view x) (calls_of x) e s part (request_view c.in_ok-open.open)) (candidates_of e)
+    (IsListed c.args.bound (question_of (extensions_view x) (calls_of x) e s part (request_view c.in_ok-open.open)) (candidates_of e)
     c.args.pages.after c.args.pages.most)
-    (IsPageFor (extensions_view x) (calls_of x) e s part c.args.request c.args.pages.after c.args.pages.most)
+    (IsPageFor c.args.bound (extensions_view x) (calls_of x) e s part c.args.request c.args.pages.after c.args.pages.most)
     (λ f h. listed c.requires
     (subst
-    (λ (r : RequestPart). IsListed (question_of (extensions_view x) (calls_of x) e s part r) (candidates_of e) c.args.pages.after
+    (λ (r : RequestPart). IsListed c.args.bound (question_of (extensions_view x) (calls_of x) e s part r) (candidates_of e) c.args.pages.after
     c.args.pages.most f) c.in_ok-open.ensures h))
     c.listed-finding.result c.listed-finding.ensures

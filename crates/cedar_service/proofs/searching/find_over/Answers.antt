@@ -18,7 +18,7 @@ returns-in-Ok g c =
     let e = c.args.engine.now in
     let p = c.args.pages in
     let s = laid_or (entities_of e) c.in-Ok.laid in
-    of_ok (IsPageFor (extensions_view x) (calls_of x) e s p.part c.args.request p.after p.most)
+    of_ok (IsPageFor (ways_view c.args.ways).bounds.candidates (extensions_view x) (calls_of x) e s p.part c.args.request p.after p.most)
     (IsFoundOver (extensions_view x) (calls_of x) e (ways_view c.args.ways) (evaluation_view c.args.sample.now) p.part
     c.args.request p.after p.most) (λ f h. laid s
     (subst (λ (b : Entities). IsAskedOver (extensions_view x) (calls_of x) (ways_view c.args.ways) b (evaluation_view c.args.sample.now)

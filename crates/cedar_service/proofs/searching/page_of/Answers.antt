@@ -1,4 +1,5 @@
-use Rattle.std.proofs.Common.{◌≡◌, subst, IfOk, map}
+use Rattle.std.proofs.Common.{◌≡◌, ◌+◌, ◌∙◌, ap, sym, subst, IfOk, map, take}
+use Rattle.std.proofs.lemmas.List.{take-map}
 use Rattle.cedar_model.specs.Settings.{shallow}
 use Rattle.cedar_model.specs.Policies.{skip}
 use Rattle.cedar_model.specs.Configurations.{configured}
@@ -39,6 +40,10 @@ returns g c =
       store = store_view c.args.store.now;
       policies = considered (policies_of e);
     } in
-    subst (λ q. IfOk c.page.result (λ p. IsPage q (candidates_of e) c.args.pages.after c.args.pages.most (page_view p))) same
-    (subst (λ us. IfOk c.page.result (λ p. IsPage asked (map uid_name us) c.args.pages.after c.args.pages.most (page_view p)))
-    c.as_slice.ensures.value c.page.ensures)
+    let looked : map uid_name c.looked_at.result.now ≡ take (c.args.pages.after + c.args.bound) (candidates_of e) =
+    ap (map uid_name) (c.looked_at.ensures ∙ ap (take (c.args.pages.after + c.args.bound)) c.as_slice.ensures.value)
+    ∙ sym (take-map uid_name (c.args.pages.after + c.args.bound) e.candidates.items) in
+    subst (λ q. IfOk c.page.result (λ p. IsPage q (take (c.args.pages.after + c.args.bound) (candidates_of e)) c.args.pages.after
+    c.args.pages.most (page_view p))) same
+    (subst (λ us. IfOk c.page.result (λ p. IsPage asked us c.args.pages.after c.args.pages.most (page_view p))) looked
+    c.page.ensures)

@@ -9,7 +9,7 @@ use Rattle.cedar_service.proofs.Alone.{calls_alone, view_alone, known_alone}
 use Rattle.cedar_service.proofs.Composed.{of_ok, of_err}
 use Rattle.cedar_service.specs.Engines.{entities_of}
 use Rattle.cedar_service.proofs.Exact.{exactly, searched}
-use Rattle.cedar_service.proofs.KnownStores.{asked_untouched}
+use Rattle.cedar_service.proofs.KnownStores.{asked_untouched, brought_alone}
 use Rattle.cedar_service.proofs.engine.Engine.of_texts.Goals as goal
 
 pub returns-clause-engine : goal.returns-clause-engine
@@ -34,6 +34,7 @@ returns-clause-engine c =
           standard_knowledge p t e has;
       searches = searched standard_knowledge p t e has;
       untouched = λ w q s none is. asked_untouched w (entities_of e) q s none is;
+      alone = λ w text s none is. brought_alone w (entities_of e) text s none is;
     })
     c.engine_of_texts.result c.engine_of_texts.ensures.engine
 

@@ -1,0 +1,2 @@
+@id("share")
+permit(principal in ?principal, action == Action::"read", resource == ?resource);

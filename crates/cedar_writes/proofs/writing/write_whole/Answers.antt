@@ -1,0 +1,24 @@
+use Rattle.std.proofs.Common.{◌≡◌, ℕ, ◌-◌, List, ◌++◌, length, take, drop, sym, ap, ◌∙◌, append_assoc, take-append-drop}
+use Rattle.std.proofs.lemmas.List.{take_rest}
+use Rattle.std.proofs.KnownBytes.{Appends-trans, Appends-kept}
+use Rattle.cedar_writes.proofs.writing.write_whole.Goals as goal
+use Rattle.cedar_writes.proofs.writing.write_whole.Goals.{in-Ok, in-Err+else-ne}
+
+moves_front : (all done rest : List ℕ) (n : ℕ) → all ≡ done ++ rest
+    → all ≡ (done ++ take n rest) ++ take (length rest - n) (drop n rest)
+moves_front all done rest n e =
+    e ∙ ap (λ l. done ++ l) (sym (take-append-drop n rest)) ∙ sym (append_assoc done (take n rest) (drop n rest))
+    ∙ ap (λ l. (done ++ take n rest) ++ l) (sym (take_rest rest n))
+
+pub tries-preserved : goal.tries-preserved
+tries-preserved g c =
+    let (done, split, appended) = c.tries.invariant in
+    let rest = c.tries.rest.now in
+    elim c.match-write.branch [
+      | in-Ok w ↦ rw w.rest-is (
+        done ++ take w.in-Ok.count rest,
+        moves_front c.args.bytes.now done rest w.in-Ok.count split,
+        Appends-trans _ _ _ _ _ appended w.in-Ok.ensures.bytes,
+      )
+      | in-Err+else-ne w ↦ rw w.rest-is (done, split, Appends-kept _ _ _ _ appended w.in-Err.ensures.bytes)
+    ]
