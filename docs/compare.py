@@ -103,8 +103,11 @@ class Tree:
 
     def file(self, path):
         if path not in self.files:
-            headline.ROOT = self.root
-            self.files[path] = headline.File(path) if os.path.isfile(f"{self.root}/{path}") else None
+            there = f"{self.root}/{path}"
+            self.files[path] = None
+            if os.path.isfile(there):
+                with open(there, encoding="utf-8") as it:
+                    self.files[path] = headline.File(it.read())
         return self.files[path]
 
     def definition(self, path, name):

@@ -5,12 +5,14 @@ A line has the call's signature (shortened: `alloc` for `alloc: Global`, no life
 the names of the clauses of its contract; *unnamed* is one that has no name. With `--stdout` it prints the page.
 `docs/check.py` compares the page with what this script makes. Run it after a change of a public call, of its first sentence or of
 a clause's name."""
-import glob
+import functools
 import os
 import re
 import sys
 
-ROOT = os.path.dirname(os.path.dirname(os.path.realpath(__file__)))
+sys.path.insert(0, os.path.dirname(os.path.realpath(__file__)))
+from rules.base import ROOT, by_text, files, read  # noqa: E402
+
 DOOR = "cedar_policy_core"
 MODULES = ["ast", "entities", "extensions", "evaluator", "authorizer", "parser", "writing", "builder", "filters"]
 HEAD = """# The contract of each call
@@ -37,6 +39,11 @@ class Item:
         self.inside, self.doc, self.is_public = inside, doc, is_public
         self.signature, self.asks, self.says = "", [], []
 
+    @functools.cached_property
+    def takes(self):
+        """The names of what a function takes."""
+        return re.findall(r"(\w+):", self.signature)
+
 
 def first_sentence(lines):
     """The first sentence of a comment, or of its first paragraph where that has no full stop."""
@@ -50,10 +57,10 @@ def first_sentence(lines):
     return (found.group(1) if found else text).rstrip(".")
 
 
-def items_of(crate, path):
+@by_text
+def items_of(path, text):
     """All that is declared in a file, in order."""
-    with open(f"{ROOT}/{path}", encoding="utf-8") as it:
-        lines = it.read().split("\n")
+    lines, crate = text.split("\n"), path.split("/")[1]
     found, inside, doc, at = [], [], [], 0
     while at < len(lines):
         line = lines[at]
@@ -131,15 +138,16 @@ class House:
     """All items of all crates."""
 
     def __init__(self):
-        self.items = []
-        for path in sorted(glob.glob(f"{ROOT}/crates/*/src/**/*.rt", recursive=True)):
-            path = os.path.relpath(path, ROOT)
-            self.items += items_of(path.split("/")[1], path)
+        self.items, self.named, self.of_crate = [], {}, {}
+        for path in files("crates/*/src/**/*.rt"):
+            self.items += items_of(path)
+        for it in self.items:
+            self.named.setdefault((it.crate, it.name), []).append(it)
+            self.of_crate.setdefault(it.crate, []).append(it)
 
     def declared(self, crate, modules, name):
         """What `crate::modules::name` leads to, also through what the crate exports of another."""
-        fitting = [it for it in self.items if it.name == name and it.crate == crate and it.is_public
-                   and not any(i[0] in ("impl", "fn", "trait") for i in it.inside)]
+        fitting = [it for it in self.named.get((crate, name), []) if it.is_public and not any(i[0] in ("impl", "fn", "trait") for i in it.inside)]
         if len(fitting) > 1:
             near = [it for it in fitting if all(f"/{m}/" in it.path or f"/{m}.rt" in it.path or any(i[1] == m for i in it.inside) for m in modules)]
             fitting = near or fitting
@@ -147,7 +155,7 @@ class House:
             fitting = [it for it in fitting if it.kind != "mod"] or fitting
         if fitting:
             return fitting[0]
-        for path in sorted(glob.glob(f"{ROOT}/crates/{crate}/src/**/*.rt", recursive=True)):
+        for path in files(f"crates/{crate}/src/**/*.rt"):
             for other, way, names in exports(path):
                 if name in names and other != crate:
                     found = self.declared(other, way, name)
@@ -158,8 +166,8 @@ class House:
     def methods(self, item):
         """The public methods of a type or a trait, and those of its traits that have a contract."""
         own, by_trait = [], []
-        for it in self.items:
-            if it.kind != "fn" or it.crate != item.crate or not it.inside:
+        for it in self.of_crate[item.crate]:
+            if it.kind != "fn" or not it.inside:
                 continue
             kind, name, trait = it.inside[-1]
             if kind == "trait" and item.kind == "trait" and name == item.name and it.path == item.path:
@@ -176,21 +184,19 @@ class House:
         base = module.path[: -len(".rt")]
         if base.endswith("/lib"):
             base = base[: -len("/lib")]
-        files = {f"{base}/{module.name}.rt", f"{base}/{module.name}/mod.rt"}
-        is_inline = any(it.inside and it.inside[-1][:2] == ("mod", module.name) and it.path == module.path for it in self.items)
-        for it in self.items:
-            here = it.path == module.path and it.inside and it.inside[-1][:2] == ("mod", module.name) if is_inline else it.path in files
+        paths = {f"{base}/{module.name}.rt", f"{base}/{module.name}/mod.rt"}
+        is_inline = any(it.inside and it.inside[-1][:2] == ("mod", module.name) and it.path == module.path for it in self.of_crate[module.crate])
+        for it in self.of_crate[module.crate]:
+            here = it.path == module.path and it.inside and it.inside[-1][:2] == ("mod", module.name) if is_inline else it.path in paths
             if here and it.is_public and it.kind in ("fn", "struct", "enum") and (is_inline or not it.inside):
                 yield it
 
 
-def exports(path):
+@by_text
+def exports(_, text):
     """The lines `pub use` of a file: the crate, the modules below it and the names."""
-    with open(path, encoding="utf-8") as it:
-        text = it.read()
-    for way, names in re.findall(r"^\s*pub use (cedar_\w+(?:::\w+)*)::(\{[^}]*\}|\w+);", text, re.M):
-        parts = way.split("::")
-        yield parts[0], parts[1:], re.findall(r"\w+", names)
+    found = re.findall(r"^\s*pub use (cedar_\w+(?:::\w+)*)::(\{[^}]*\}|\w+);", text, re.M)
+    return [(way.split("::")[0], way.split("::")[1:], re.findall(r"\w+", names)) for way, names in found]
 
 
 def without_lifetimes(text):
@@ -269,8 +275,7 @@ def page(house=None):
     shown = set()
     count = 0
     for module in MODULES:
-        with open(f"{ROOT}/crates/{DOOR}/src/{module}.rt", encoding="utf-8") as it:
-            source = it.read()
+        source = read(f"crates/{DOOR}/src/{module}.rt")
         head = " ".join(re.findall(r"^//! (.*)$", source, re.M))
         out += ["", f"## `{module}`", "", *folded(head)]
         part, loose = "", {}

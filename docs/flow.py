@@ -1,7 +1,13 @@
 #!/usr/bin/env python3
-"""docs/flow.py: draws docs/flow.svg, the picture in docs/ARCHITECTURE.md of how data goes. Plain Python; run it after a change here."""
+"""docs/flow.py: draws the pictures in docs/ARCHITECTURE.md: docs/rooms.svg, the rooms and crates that crates.txt lists, and docs/flow.svg, how
+data goes. Plain Python; run it after a change here or of crates.txt. `docs/check.py` compares both with what it draws."""
 import os
+import sys
+import textwrap
 from xml.sax.saxutils import escape
+
+sys.path.insert(0, os.path.dirname(os.path.realpath(__file__)))
+from rules.base import ROOT, crates, rooms  # noqa: E402
 
 WIDTH, HEIGHT = 1280, 460
 
@@ -46,9 +52,9 @@ ARROWS = [
 ]
 
 
-def text(x, y, words, weight, size):
+def text(x, y, words, weight, size, anchor="middle"):
     return (
-        f'<text x="{x}" y="{y}" text-anchor="middle" font-family="sans-serif" font-size="{size}" '
+        f'<text x="{x}" y="{y}" text-anchor="{anchor}" font-family="sans-serif" font-size="{size}" '
         f'font-weight="{weight}" fill="#202124">{escape(words)}</text>'
     )
 
@@ -83,7 +89,27 @@ def picture():
     return "\n".join([*parts, "</svg>", ""])
 
 
+def rooms_picture():
+    """The rooms of crates.txt, each over those before it, with what it is and its crates."""
+    parts, top = [], 10
+    for number, (room, what) in reversed(list(enumerate(rooms().items()))):
+        here = [it.removeprefix("cedar_") for it, (its_room, _, _) in crates().items() if its_room == room]
+        said, lines = textwrap.wrap(what, 44), textwrap.wrap(", ".join(here), 118)
+        height = 17 * max(len(said) + 1, len(lines)) + 16
+        colour = ("#e8f0fe", "#e6f4ea", "#fff4d6")[number % 3]
+        parts.append(f'<rect x="10" y="{top}" width="{WIDTH - 20}" height="{height}" rx="8" fill="{colour}" stroke="#5f6368"/>')
+        parts.append(text(24, top + 21, room, "bold", 15, "start"))
+        parts += [text(24, top + 38 + 17 * at, line.replace("`", ""), "normal", 12, "start") for at, line in enumerate(said)]
+        parts += [text(350, top + 21 + 17 * at, line, "normal", 13, "start") for at, line in enumerate(lines)]
+        top += height + 6
+    title = f"The rooms of crates.txt, each over those that its crates use: {', '.join(reversed(rooms()))}"
+    return "\n".join([
+        f'<svg xmlns="http://www.w3.org/2000/svg" viewBox="0 0 {WIDTH} {top + 4}" width="{WIDTH}" height="{top + 4}" role="img">',
+        f"<title>{escape(title)}</title>", f'<rect width="{WIDTH}" height="{top + 4}" fill="#ffffff"/>', *parts, "</svg>", "",
+    ])
+
+
 if __name__ == "__main__":
-    path = os.path.join(os.path.dirname(os.path.realpath(__file__)), "flow.svg")
-    with open(path, "w", encoding="utf-8") as it:
-        it.write(picture())
+    for name, drawn in (("flow", picture()), ("rooms", rooms_picture())):
+        with open(f"{ROOT}/docs/{name}.svg", "w", encoding="utf-8") as it:
+            it.write(drawn)

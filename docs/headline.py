@@ -8,7 +8,9 @@ import os
 import re
 import sys
 
-ROOT = os.path.dirname(os.path.dirname(os.path.realpath(__file__)))
+sys.path.insert(0, os.path.dirname(os.path.realpath(__file__)))
+from rules.base import ROOT, by_text, is_file, read  # noqa: E402
+
 CODE = "crates/cedar_authorizer/src/authorizer.rt"
 HEAD = """# What the headline needs
 
@@ -28,9 +30,8 @@ data, and what the standard functions answer.
 class File:
     """The definitions of a file of `specs/`, and what it imports."""
 
-    def __init__(self, path):
-        with open(f"{ROOT}/{path}", encoding="utf-8") as it:
-            lines = it.read().split("\n")
+    def __init__(self, text):
+        lines = text.split("\n")
         self.imports, self.blocks, self.parts = imports_of("\n".join(lines)), {}, {}
         self.modules = {short: f"crates/{crate}/specs/{way.replace('.', '/')}.antt" for crate, way, short in
                         re.findall(r"use Rattle\.(cedar_\w+)\.specs\.([\w.]+) as (\w+)", "\n".join(lines))}
@@ -70,6 +71,11 @@ class File:
             note = 0
 
 
+@by_text
+def file_of(_, text):
+    return File(text)
+
+
 def imports_of(text):
     """Which file each imported name is from."""
     found = {}
@@ -82,18 +88,17 @@ def imports_of(text):
 
 def closure():
     """The definitions: a set of files with their names."""
-    with open(f"{ROOT}/{CODE}", encoding="utf-8") as it:
-        code = it.read()
+    code = read(CODE)
     clause = re.search(r"ensures headline \{(.*?)\n\s*(?:ensures|\{)", code, re.S).group(1)
     known, files = imports_of(code), {}
     waiting = [(known[it], it) for it in re.findall(r"[\w-]+", clause) if it in known]
     found = set()
     while waiting:
         path, name = waiting.pop()
-        if not os.path.isfile(f"{ROOT}/{path}"):
+        if not is_file(path):
             continue
         if path not in files:
-            files[path] = File(path)
+            files[path] = file_of(path)
         here = files[path]
         name = name if name in here.blocks else here.parts.get(name, name)
         if name not in here.blocks:
