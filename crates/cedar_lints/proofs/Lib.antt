@@ -1,0 +1,9 @@
+pub mod Levels
+pub mod Noting
+pub mod Putting
+pub mod KeySets
+pub mod KnownSets
+pub mod Members
+pub mod Passing
+pub mod Smaller
+pub mod Missing
