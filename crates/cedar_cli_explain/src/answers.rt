@@ -136,10 +136,9 @@ fn explain_over_given_store(
     ensures refused { IfErr result (IsToldFor
         (IsAskedUnread (extensions_view extensions.now) (calls_of extensions.now) asked.now)) }
 {
-    let mut told = String::new(alloc);
-    let store = known_store(alloc, asked, extensions, &mut told)?;
+    let store = known_store(alloc, asked, extensions)?;
     let explanation = explain_over_store(alloc, explaining, &store.entities, asked, extensions);
-    drop((store, told));
+    drop(store);
     explanation
 }
 

@@ -3,3 +3,4 @@ pub mod Parts
 pub mod Rows
 pub mod Told
 pub mod Six
+pub mod Stayed

@@ -1,3 +1,4 @@
 mod Composed
 mod Ended
 mod Told
+mod NamesSaid

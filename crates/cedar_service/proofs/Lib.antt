@@ -19,3 +19,5 @@ mod Without
 mod Laid
 mod Bounded
 mod Taken
+mod PropertyNames
+mod Rooted
