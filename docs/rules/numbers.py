@@ -33,8 +33,8 @@ SAID = [
     ("docs/COMMANDS.md", "Status {} is out of memory", "crates/cedar/src/main.rt", r"const OUT_OF_MEMORY: u8 = (\d+);"),
     ("docs/COMMANDS.md", "What can't be answered ends with status {}", "crates/cedar/src/main.rt", r"const REFUSED: u8 = (\d+);"),
     ("docs/SERVING.md", "and the status is {}. It is 1 too", f"{SERVE}/main.rt", r"const REFUSED: u8 = (\d+);"),
-    ("docs/SERVING.md", "{} where `--action-type` is no name", f"{SERVE}/main.rt", r"const WRONG_OPTION: u8 = (\d+);"),
-    ("docs/SERVING.md", "has no use, {} if out of memory, and else 0", f"{SERVE}/main.rt", r"const OUT_OF_MEMORY: u8 = (\d+);"),
+    ("docs/SERVING.md", "{} where that of `--action-type` is no name", f"{SERVE}/main.rt", r"const NO_TYPE: u8 = (\d+);"),
+    ("docs/SERVING.md", "is no name, {} if out of memory, and else 0", f"{SERVE}/main.rt", r"const OUT_OF_MEMORY: u8 = (\d+);"),
     ("docs/SERVING.md", "if out of memory, and else {}", f"{SERVE}/main.rt", r"const DONE: u8 = (\d+);"),
     ("docs/MODEL.md", "with at most {} names that are there", "crates/cedar_operators/src/missing.rt", r"const TOO_MANY_ATTRS: usize = (\d+);"),
 ]

@@ -1,26 +1,22 @@
 -- The standard extensions alone are, as plain data, those that the definitions name.
 use Rattle.std.proofs.Common.{◌≡◌, refl, sym, ap, ◌∙◌, true, true≢false, List, [], ◌++◌, map, Option, None, is_some}
-use Rattle.std.proofs.Common.{Some, option_map, ◌∷◌, length, codes}
-use Rattle.std.proofs.lemmas.List.{append-nil, length-map}
+use Rattle.std.proofs.Common.{Some, option_map}
+use Rattle.std.proofs.lemmas.List.{append-nil}
 use Rattle.std.specs.Option.{option_or}
 use mathlib.Core.HProp.{h_prop_ext}
 use Rattle.cedar_model.specs.Terms.{Text}
 use Rattle.cedar_model.specs.Values.{Represented}
 use Rattle.cedar_model.specs.Failures.{Answer}
 use Rattle.cedar_names.specs.Names.{name_text}
-use Rattle.cedar_names.specs.declared.names.CallStyle.TheVariants.{FunctionStyle}
 use Rattle.cedar_standard_functions.specs.Kinds.{overloaded}
 use Rattle.cedar_standard_functions.specs.Standard.{standard_named}
 use Rattle.cedar_extensions.specs.declared.extensions.Extensions.{Extensions}
-use Rattle.cedar_extensions.specs.declared.extension.Extension.{Extension}
-use Rattle.cedar_extensions.specs.declared.function.ExtensionFunction.{ExtensionFunction}
-use Rattle.cedar_extensions.specs.Extension.{functions_of, all_functions, all_overloading_types}
+use Rattle.cedar_extensions.specs.Extension.{all_functions, all_overloading_types}
 use Rattle.cedar_extensions.specs.Extensions.{extensions_in, has_standard, made_calls_of, extensions_view, calls_of}
-use Rattle.cedar_extensions.specs.Functions.{arity, function_among, function_text, function_style, function_takes}
+use Rattle.cedar_extensions.specs.Functions.{arity, function_among}
 use Rattle.cedar_extensions.specs.Standard.{standard_if, standard_arity, overloaded_if, StandardFirst}
 use Rattle.cedar_functions.specs.Functions.{these, signatures_of, signature_of, standard_signatures}
-use Rattle.cedar_cli.specs.Standard.{standard_extensions, standard_calls, standard_knowledge, unknown_signature}
-use Rattle.cedar_cli.specs.Standard.{knowledge_with_unknown}
+use Rattle.cedar_cli.specs.Standard.{standard_extensions, standard_calls, standard_knowledge}
 
 or_none : {A : Type 0} (o : Option A) → option_or o None ≡ o
 or_none None = refl
@@ -58,26 +54,3 @@ module _ {X : Type 0} {F : X → Type 0} {g : _} (x : Extensions X F g) (none : 
       ap these
       ((λ i. standard_signatures (there i) ++ map signature_of (all_functions (none i)))
       ∙ append-nil (standard_signatures true))
-
--- ---- beside `unknown`
-
-pub one_mapped : {A B : Type 0} (f : A → B) (x : A) {y : B} → f x ≡ y → map f (x ∷ []) ≡ y ∷ []
-one_mapped f x is = ap (λ y. y ∷ []) is
-
--- what is known of a function of this name and style, which takes one argument
-pub is_unknown : {X : Type 0} {F : X → Type 0} {g : _} (f : ExtensionFunction X F g) {T : Type 0} {view : _ → T} {t : T}
-    → function_text f ≡ codes "unknown" → function_style f ≡ FunctionStyle → map view (function_takes f) ≡ t ∷ []
-    → signature_of f ≡ unknown_signature
-is_unknown f {T} {view} {t} name style takes =
-    let one : arity f ≡ 1 = sym (length-map (function_takes f) view) ∙ ap length takes in
-    λ i. record { name = name i; style = style i; arguments = one i }
-
--- what is known where an extension stands beside the standard ones whose functions are these
-pub known_beside_unknown : {X : Type 0} {F : X → Type 0} {g : _} (x : Extensions X F g) (e : Extension X F g)
-    → extensions_in x ≡ e ∷ [] → has_standard x ≡ true → map signature_of (functions_of e) ≡ unknown_signature ∷ []
-    → these (signatures_of x) ≡ knowledge_with_unknown
-known_beside_unknown x e alone there is =
-    ap these
-    ((λ i. standard_signatures (there i) ++ map signature_of (all_functions (alone i)))
-    ∙ ap (λ fs. standard_signatures true ++ map signature_of fs) (append-nil (functions_of e))
-    ∙ ap (λ l. standard_signatures true ++ l) is)

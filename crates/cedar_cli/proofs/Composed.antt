@@ -1,7 +1,7 @@
 -- How what is answered is composed of what the calls below answer.
 use Rattle.std.proofs.Common.{◌≡◌, sym, subst, Result, Ok, Err, IfOk}
 use Rattle.std.specs.Result.{IsErrAnd}
-use Rattle.std.specs.Prelude.{IfErr, OnOk}
+use Rattle.std.specs.Prelude.{IfErr}
 use Rattle.std.specs.declared.alloc.AllocError.{AllocError}
 use Rattle.cedar_model.specs.Rules.{StoredCalls}
 use Rattle.cedar_model.specs.World as world
@@ -27,15 +27,6 @@ pub of_two : {A E : Type 0} (P Q R : A → Type 0) → ((a : A) → P a → Q a 
     → IfOk r R
 of_two P Q R f (Ok a) h k = f a h k
 of_two P Q R f (Err e) h k = tt
-
--- what is so where there is an answer
-pub on_ok : {A E : Type 0} (P Q : Type 0) → (P → Q) → (r : Result A E) → OnOk r P → OnOk r Q
-on_ok P Q f (Ok a) h = f h
-on_ok P Q f (Err e) h = tt
-
-pub always : {A E : Type 0} (P : Type 0) → P → (r : Result A E) → OnOk r P
-always P h (Ok a) = h
-always P h (Err e) = tt
 
 -- and of each refusal
 pub of_err : {A E : Type 0} (P Q : E → Type 0) → ((e : E) → P e → Q e) → (r : Result A E) → IfErr r P → IfErr r Q

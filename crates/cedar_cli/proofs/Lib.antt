@@ -20,8 +20,3 @@ pub mod Halting
 pub mod Staged
 pub mod Explaining
 pub mod Stating
-pub mod Messages
-pub mod Enough
-pub mod Reporting
-pub mod Reported
-pub mod Listing

@@ -30,10 +30,9 @@ use Rattle.cedar_cli.specs.declared.decisions.Printed.{Printed}
 use Rattle.cedar_cli.specs.declared.steps.Taken.{Taken}
 use Rattle.cedar_cli.specs.Printing.{partial_status, partial_word}
 use Rattle.cedar_cli.specs.Questions.{IsPartialRequest}
-use Rattle.cedar_cli.specs.Stages.{last_in, response_or, decision_in, AreStages, IsLastWord, IsStageText, AreWordsAbove, no_words, word_below}
+use Rattle.cedar_cli.specs.Stages.{last_in, response_or, decision_in, AreStages, IsLastWord, IsWordOf, AreWordsAbove, no_words, word_below}
 use Rattle.cedar_cli.specs.Stages.{IsStageDocument, AreDocuments, one_document, document_behind, IsOfDocuments, AreDocumented, AreInDocument}
 use Rattle.cedar_cli.specs.Inputs.{AreAllTaken, AddsWord, AddsDocument}
-use Rattle.cedar_cli.specs.Shown.{IsResponseText}
 use Rattle.cedar_cli.proofs.Stepping.{last_after, assoc_one, append_none}
 
 -- ---- stages
@@ -80,12 +79,12 @@ module _ (first : PartialResponse) (all : List Taken) where
   }
 
   pub word_more : (t : Taken) (left rest : List Taken) (now then : PartialResponse) (before after : Text)
-      → left ≡ t ∷ rest → AreWordsSoFar first all left now before → AddsWord t now before after
+      → left ≡ t ∷ rest → AreWordsSoFar first all left now before → AddsWord now before after
       → then ≡ response_or t.response now → AreWordsSoFar first all rest then after
   word_more t left rest now then before after left_is so_far adds then_is = record {
     done = so_far.done ++ t ∷ [];
     words = subst (AreWordsAbove first (so_far.done ++ t ∷ [])) (sym adds.2)
-        (word_below so_far.words t adds.0 (subst (λ r. IsStageText t r adds.0) so_far.last_is adds.1));
+        (word_below so_far.words t adds.0 (subst (λ r. IsWordOf r adds.0) so_far.last_is adds.1));
     last_is = then_is ∙ ap (response_or t.response) so_far.last_is ∙ sym (last_after first so_far.done t t.response refl);
     all_are = assoc_one so_far.done t rest ∙ ap (λ l. so_far.done ++ l) (sym left_is) ∙ so_far.all_are;
   }
@@ -96,20 +95,19 @@ module _ (first : PartialResponse) (all : List Taken) where
       subst (λ l. AreWordsAbove first l text)
       (sym (append_none so_far.done) ∙ ap (λ l. so_far.done ++ l) (sym none) ∙ so_far.all_are) so_far.words
 
-pub adds_word : (t : Taken) (r : PartialResponse) (text lent before after : Text) → lent ≡ text → IsStageText t r text
-    → after ≡ before ++ lent → AddsWord t r before after
-adds_word t r text lent before after same is added =
-    (lent, subst (IsStageText t r) (sym same) is, added)
+pub adds_word : (r : PartialResponse) (text lent before after : Text) → lent ≡ text → IsWordOf r text
+    → after ≡ before ++ lent → AddsWord r before after
+adds_word r text lent before after same is added =
+    (lent, subst (IsWordOf r) (sym same) is, added)
 
 module _ (above : Text) (r : PartialResponse) (d : Option Decision) (is : option_map decision_view d ≡ decision_in r)
-    (lines : Text) (are : IsResponseText r lines) where
+    (lines : Text) where
   pub last_word : (o : Result Printed AllocError)
       → IfOk o (λ p. p.status ≡ partial_status (option_map decision_view d))
       → IfOk o (λ p. string_bytes p.output ≡ above ++ (partial_word (option_map decision_view d) ++ (codes "\n" ++ lines)))
       → IfOk o (IsLastWord above r)
   last_word (Ok p) status output = record {
     lines = lines;
-    lines_are = are;
     status_is = status ∙ ap partial_status is;
     output_is = output ∙ ap (λ e. above ++ (partial_word e ++ (codes "\n" ++ lines))) is;
   }

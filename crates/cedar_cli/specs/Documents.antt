@@ -1,6 +1,6 @@
 -- The JSON values that say responses: their policies stand in this set, and this text has the places.
 use Rattle.std.specs.Prelude.{◌≡◌, ◌++◌, ◌||◌, ℕ, min, Bool, cond, List, [], ◌∷◌, flat_map, pos}
-use Rattle.std.specs.Prelude.{Option, Some, None, IfSome, codes}
+use Rattle.std.specs.Prelude.{Option, Some, None, codes}
 use Rattle.std.specs.Fmt.{signed_decimal}
 use Rattle.json.specs.Json.{Json, string, number, array}
 use Rattle.json.specs.Value.{items_of}
@@ -15,7 +15,6 @@ use Rattle.cedar_authorizer.specs.responses.Responses.{has_id, error_view, error
 use Rattle.cedar_json_writer.specs.Texts.{texts_json, object_of}
 use Rattle.cedar_json_writer.specs.Errors.{Says, error_members}
 use Rattle.cedar_json_writer.specs.Responses.{decision_json}
-use Rattle.cedar_response_json.specs.Errors.{travelled}
 use Rattle.cedar_cli.specs.Named.{annotated, ids_where, is_named}
 use Rattle.cedar_cli.specs.Noted.{place_at}
 
@@ -44,19 +43,10 @@ place_members text None = []
 place_members text (Some l) =
     (codes "line", count_json (place_at text l.start).0) ∷ (codes "column", count_json (place_at text l.start).1) ∷ []
 
--- the text is what an error says and, of one that was read from a line, what it said where it was written
-abbrev pub IsMessage : Failure → Text → Type 0
-IsMessage f t = Says f t × IfSome (travelled f) (λ m. t ≡ m)
-
--- the id of the policy that erred and what its error says stand behind the members before
-abbrev pub AddsSaid : Text × Failure → List (Text × Json) → List (Text × Json) → Type 0
-AddsSaid e before after =
-    (message : Text) × IsMessage e.1 message × (after ≡ before ++ error_members e.0 message)
-
 -- the id of the policy that erred, what its error says, and where in the text it arose
 abbrev pub IsPlacedError : Text → AuthorizationError → Json → Type 0
 IsPlacedError text e j =
-    (message : Text) × IsMessage (error_view e).1 message
+    (message : Text) × Says (error_view e).1 message
     × (j ≡ object_of (error_members (error_view e).0 message ++ place_members text (error_place e)))
 
 -- of these errors, in order

@@ -1,24 +1,19 @@
 -- What `evaluate` answers to texts: the value of an expression, what is printed of it, and why there is none.
-use Rattle.std.specs.Prelude.{◌≡◌, ◌≢◌, ◌++◌, ◌<◌, ◌^◌, ⊤, ℕ, max, Bool, true, false, List, [], Option, None, Some, codes}
-use Rattle.std.specs.Prelude.{string_bytes}
+use Rattle.std.specs.Prelude.{◌≡◌, ◌≢◌, ◌++◌, ⊤, ℕ, Bool, true, false, Option, None, Some, codes, string_bytes}
 use Rattle.json.specs.Print.{print}
 use Rattle.json.specs.Tree.{json_tokens}
 use Rattle.cedar_model.specs.Terms.{Text}
 use Rattle.cedar_model.specs.Values.{Represented, expression_of}
 use Rattle.cedar_model.specs.World as world
-use Rattle.cedar_model.specs.Failures.{Failure, out_of_memory, recursion_limit, Answer, fails, answers_value}
+use Rattle.cedar_model.specs.Failures.{Failure, out_of_memory, Answer, fails, answers_value}
 use Rattle.cedar_model.specs.Rules.{StoredCalls, Meets}
 use Rattle.cedar_model.specs.Settings.{Setting, shallow}
-use Rattle.cedar_model.specs.Agreement.{no_slots, height}
+use Rattle.cedar_model.specs.Agreement.{no_slots}
 use Rattle.cedar_expressions.specs.View.{view}
 use Rattle.cedar_expressions.specs.declared.expr.Expr.{Expr}
 use Rattle.cedar_functions.specs.Functions.{Knowledge}
-use Rattle.cedar_heights.specs.Capped.{capped}
-use Rattle.cedar_heights.specs.Heights.{greatest_facts}
-use Rattle.cedar_heights.specs.Limits.{context_height, enough, StoredAreNoHigher}
 use Rattle.cedar_layers.specs.Stores.{store_view}
 use Rattle.cedar_layers.specs.declared.policies.entities.Entities.{Entities}
-use Rattle.cedar_layers.specs.declared.policies.entities.Entity.{Entity}
 use Rattle.cedar_requests.specs.Requests.{request_view}
 use Rattle.cedar_requests.specs.declared.request.Request.{Request}
 use Rattle.cedar_evaluator.specs.Evaluations.{setting_for, IsPromisedValue}
@@ -26,14 +21,11 @@ use Rattle.cedar_text_parser.specs.Reading.{IsRead, IsNotParsed}
 use Rattle.cedar_text_parser.specs.declared.errors.ParseError.{ParseError}
 use Rattle.cedar_text_printer.specs.Texts.{written}
 use Rattle.cedar_json_reader.specs.JsonTexts.{SaysSo}
-use Rattle.cedar_json_reader.specs.SaidEntities.{entities_said}
 use Rattle.cedar_json_reader.specs.SaidRequests.{IsRequestOf}
-use Rattle.cedar_json_reader.specs.Evaluated.{AreEntitiesOf}
 use Rattle.cedar_json_writer.specs.Written as json
 use Rattle.cedar_cli.specs.declared.asked.Asked.{Asked}
 use Rattle.cedar_cli.specs.declared.asked.Source.{Source}
 use Rattle.cedar_cli.specs.declared.decisions.Printed.{Printed}
-use Rattle.cedar_cli.specs.declared.stores.Store.{Store}
 use Rattle.cedar_cli.specs.Questions.{levels, IsOfParts, IsWholeRequest, IsKnownStore}
 use Rattle.cedar_cli.specs.Reasons.{IsOfPolicies, IsRequestUnread, ArePartsUnread, IsKnownStoreUnread}
 use Rattle.cedar_cli.specs.Standard.{standard_extensions, standard_calls, standard_knowledge}
@@ -47,46 +39,10 @@ abbrev pub IsRequestOr : world.Extensions → StoredCalls → Option Source → 
 IsRequestOr X calls (Some s) q r = IsWholeRequest X calls q r
 IsRequestOr X calls None q r = IsOfParts X calls q r
 
--- how many levels the highest attribute or tag has of the entities that the JSON says; 0 where none are given
-abbrev pub IsHighestSaid : world.Extensions → StoredCalls → Option Source → ℕ → Type 0
-IsHighestSaid X calls None n = n ≡ 0
-IsHighestSaid X calls (Some t) n =
-    (es : List Entity) × SaysSo t.text.now (λ j. AreEntitiesOf X calls levels (entities_said j) es)
-    × (n ≡ greatest_facts es)
-
--- of the entities that are given, of which this is the store, the highest attribute or tag has so many levels
-pub record IsStoredHeight (X : world.Extensions) (calls : StoredCalls) (given : Option Source) (s : Entities) (n : ℕ)
-    : Type 0 where
-  pub is_said : IsHighestSaid X calls given n
-  pub none_higher : StoredAreNoHigher (store_view s) n
-
--- how many levels suffice for the expression: as many as it has and, twice, as the highest has of the context, of what is
--- stored and of what standard functions answer, which has 3 at most
-abbrev pub levels_needed : Expr → Request → ℕ → ℕ
-levels_needed e r stored = enough (height (view e)) (max (max (context_height (request_view r).context_part) stored) 3)
-
--- the limit of levels is the one that is set or, where none is, what suffices (of more than a machine can count, the
--- most that it can)
-abbrev pub IsLimitOr : Option ℕ → ℕ → ℕ → Type 0
-IsLimitOr None needed n = n ≡ capped needed
-IsLimitOr (Some limit) needed n = n ≡ limit
-
--- without a limit that is set no answer is the recursion limit
-abbrev pub MeetsNoLimit : Option ℕ → ℕ → Answer → Type 0
-MeetsNoLimit (Some limit) needed a = ⊤
-MeetsNoLimit None needed a = needed < 2 ^ 64 → a ≢ fails recursion_limit
-
--- ---- for private clauses
-
--- the store is of the entities that are given, and this is noted of it
-abbrev pub IsOfHeight : world.Extensions → StoredCalls → Option Source → Store → Type 0
-IsOfHeight X calls given s = (n : ℕ) × IsStoredHeight X calls given s.entities n × (s.height ≡ capped n)
-
--- what suffices, as it is counted
-abbrev pub levels_counted : Expr → Request → ℕ → ℕ
-levels_counted e r stored =
-    capped (enough (capped (height (view e)))
-    (max (max (capped (context_height (request_view r).context_part)) stored) 3))
+-- the limit of levels is the one that is set, if one is
+abbrev pub IsLimitOr : Option ℕ → ℕ → Type 0
+IsLimitOr None n = ⊤
+IsLimitOr (Some limit) n = n ≡ limit
 
 -- ---- what is answered
 
@@ -99,18 +55,14 @@ given X s r = setting_for (request_view r) (store_view s) X (λ n. None) shallow
 abbrev pub IsAnswerBy : world.Extensions → StoredCalls → Expr → Entities → Request → ℕ → Answer → Type 0
 IsAnswerBy X calls e s r n a = Meets (IsPromisedValue (given X s r) calls n (view e)) a
 
--- there is a request that is asked, and this is the answer, within the limit that is set or else within all levels that
--- it can need
+-- there is a request that is asked, and this is the answer
 pub record IsAnswerOver (X : world.Extensions) (calls : StoredCalls) (e : Expr) (s : Entities) (q : Asked)
     (limit : Option ℕ) (a : Answer) : Type 0 where
   pub request : Request
-  pub stored : ℕ
   pub within : ℕ
   pub request_is : IsRequestOr X calls q.request q request
-  pub stored_is : IsStoredHeight X calls q.entities s stored
-  pub limit_is : IsLimitOr limit (levels_needed e request stored) within
+  pub limit_is : IsLimitOr limit within
   pub answer_is : IsAnswerBy X calls e s request within a
-  pub no_limit : MeetsNoLimit limit (levels_needed e request stored) a
 
 -- there is a store that is given, and over it this is the answer
 pub record IsAnswerOf (X : world.Extensions) (calls : StoredCalls) (e : Expr) (q : Asked) (limit : Option ℕ)
@@ -132,11 +84,10 @@ abbrev pub IsValueLine : Bool → Represented → Text → Type 0
 IsValueLine true v output = output ≡ print (json_tokens (json.written (expression_of v))) ++ codes "\n"
 IsValueLine false v output = IsTextLine v output
 
--- this value is printed, with status 0, and nothing is reported beside it
+-- this value is printed, with status 0
 pub record IsValuePrinted (is_json : Bool) (v : Represented) (p : Printed) : Type 0 where
   pub status_is : p.status ≡ 0
   pub output_is : IsValueLine is_json v (string_bytes p.output)
-  pub no_warnings : string_bytes p.warnings ≡ []
 
 -- the whole: there are an expression, which the text's tokens derive, and its value, which is printed
 pub record IsEvaluated (text : Text) (q : Asked) (limit : Option ℕ) (is_json : Bool) (p : Printed) : Type 0 where

@@ -35,7 +35,7 @@ use Rattle.cedar_cli.specs.Questions.{IsStoreSaid}
 use Rattle.cedar_unknowns.specs.Themselves.{entity_values}
 use Rattle.cedar_cli.specs.Steps.{step_map, values_in, open_names, some_open, entities_lacked, AreValuesSaid}
 use Rattle.cedar_cli.specs.Stopped.{GivesAnother}
-use Rattle.cedar_cli.specs.Stages.{last_in, AreTaken, IsStageText, IsStageDocument}
+use Rattle.cedar_cli.specs.Stages.{last_in, AreTaken, IsWordOf, IsStageDocument}
 
 -- ---- what is read
 
@@ -120,9 +120,9 @@ pub record AreAllTaken (c : Configuration) (first : PartialResponse) (store : En
 
 -- ---- what is printed
 
--- a response's word, with what is known of it and the step that follows, stands behind this
-abbrev pub AddsWord : Taken → PartialResponse → Text → Text → Type 0
-AddsWord step r before after = (text : Text) × IsStageText step r text × (after ≡ before ++ text)
+-- a response's word, with lines below it, stands behind this
+abbrev pub AddsWord : PartialResponse → Text → Text → Type 0
+AddsWord r before after = (text : Text) × IsWordOf r text × (after ≡ before ++ text)
 
 -- the line of a policy, where its id is one of these, stands behind this
 abbrev pub AddsNameLine : (Text → Bool) → PolicyView → Text → Text → Type 0

@@ -9,13 +9,10 @@ pub mod Authorized
 pub mod Batch
 pub mod Steps
 pub mod Reasons
+pub mod Stages
 pub mod Stopped
 pub mod Inputs
 pub mod Evaluated
 pub mod Explained
 pub mod Strict
 pub mod Translated
-pub mod Warned
-pub mod Shown
-pub mod Stages
-pub mod Linted

@@ -1,5 +1,5 @@
 -- Positions that are noted of a text.
-use Rattle.std.specs.Prelude.{◌≡◌, ◌≤◌, ◌++◌, ℕ, List, length, min, codes, decimal}
+use Rattle.std.specs.Prelude.{◌≡◌, ◌≤◌, ℕ, List, length, min}
 use Rattle.cedar_text_lexer.specs.declared.show.Position.{Position}
 use Rattle.cedar_text_lexer.specs.Positions.{position_of}
 
@@ -12,8 +12,3 @@ abbrev pub place_at : List ℕ → ℕ → ℕ × ℕ
 place_at text at =
     let p = position_of text (min at (length text)) in
     (p.line, p.column)
-
--- the line that says why, at a place of what has this name
-abbrev pub line_at : List ℕ → ℕ × ℕ → List ℕ → List ℕ
-line_at name place why =
-    name ++ (codes ": line " ++ (decimal place.0 ++ (codes ", column " ++ (decimal place.1 ++ (codes ": " ++ why)))))

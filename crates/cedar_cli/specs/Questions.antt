@@ -22,6 +22,7 @@ use Rattle.cedar_requests.specs.declared.entry.EntityUIDEntry.TheVariants as ent
 use Rattle.cedar_requests.specs.declared.request.Request.{Request}
 use Rattle.cedar_requests.specs.Contexts.{context_view}
 use Rattle.cedar_requests.specs.Requests.{request_parts, request_view}
+use Rattle.cedar_functions.specs.Functions.{Knowledge}
 use Rattle.cedar_text_parser.specs.Paths.{IsEntityRead, IsNameRead}
 use Rattle.cedar_text_parser.specs.PolicyReading.{AreAllRead}
 use Rattle.cedar_text_parser.specs.declared.policies.ParsedPolicies.{ParsedPolicies}
@@ -33,17 +34,18 @@ use Rattle.cedar_json_reader.specs.Evaluated.{AreEntitiesOf}
 use Rattle.cedar_json_reader.specs.NothingUnknown.{IsKnownRequest}
 use Rattle.cedar_cli.specs.declared.asked.Asked.{Asked}
 use Rattle.cedar_cli.specs.declared.asked.Source.{Source}
-use Rattle.cedar_cli.specs.Standard.{standard_knowledge, knowledge_with_unknown}
+use Rattle.cedar_cli.specs.Standard.{standard_knowledge}
 
 -- how many levels a text may have
 abbrev pub levels : ℕ
 levels = 4000
 
--- they are those that the text's tokens derive with the standard functions and `unknown`
-abbrev pub ArePoliciesOf : Text → ParsedPolicies → Type 0
-ArePoliciesOf text parsed = AreAllRead knowledge_with_unknown text levels parsed
+-- there is a knowledge of functions by which the text's tokens derive these policies
+pub record ArePoliciesOf (text : Text) (parsed : ParsedPolicies) : Type 0 where
+  pub known : Knowledge
+  pub read : AreAllRead known text levels parsed
 
--- with the standard functions alone; where they may have unknowns, with `unknown` too
+-- they are those that it derives with the standard functions; where they may have unknowns, with some functions
 abbrev pub ArePoliciesFor : Bool → Text → ParsedPolicies → Type 0
 ArePoliciesFor false text parsed = AreAllRead standard_knowledge text levels parsed
 ArePoliciesFor true text parsed = ArePoliciesOf text parsed

@@ -32,7 +32,7 @@ use Rattle.cedar_cli.specs.declared.asked.Source.{Source}
 use Rattle.cedar_cli.specs.declared.refusal.Refusal.{Refusal}
 use Rattle.cedar_cli.specs.declared.refusal.Refusal.TheVariants as refusals
 use Rattle.cedar_cli.specs.Questions.{levels, AreGiven, most_in, at_most_ancestors}
-use Rattle.cedar_cli.specs.Standard.{standard_extensions, standard_calls, standard_knowledge, knowledge_with_unknown}
+use Rattle.cedar_cli.specs.Standard.{standard_extensions, standard_calls, standard_knowledge}
 
 -- what is told is told for this reason; else memory ran out
 abbrev pub IsToldFor : Type 0 → Refusal → Type 0
@@ -80,11 +80,12 @@ pub record ArePoliciesUnread (k : Knowledge) (text : Text) : Type 0 where
   pub of_policies : IsOfPolicies first
   pub refused : AreTold k text levels (first ∷ others)
 
--- with the standard functions and `unknown` the text is no policies
-abbrev pub AreUnread : Text → Type 0
-AreUnread text = ArePoliciesUnread knowledge_with_unknown text
+-- there is a knowledge of functions by which the text is no policies
+pub record AreUnread (text : Text) : Type 0 where
+  pub known : Knowledge
+  pub unread : ArePoliciesUnread known text
 
--- with the standard functions alone it is no policies; where they may have unknowns, with `unknown` too
+-- with the standard functions it is no policies; where they may have unknowns, with some functions
 abbrev pub AreUnreadFor : Bool → Text → Type 0
 AreUnreadFor false text = ArePoliciesUnread standard_knowledge text
 AreUnreadFor true text = AreUnread text

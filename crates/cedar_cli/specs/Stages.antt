@@ -47,7 +47,6 @@ use Rattle.cedar_cli.specs.Printing.{partial_status, partial_word}
 use Rattle.cedar_cli.specs.Named.{is_told}
 use Rattle.cedar_cli.specs.Documents.{IsErrorsArray, names_where}
 use Rattle.cedar_cli.specs.Questions.{levels, IsPartialRequest, IsGivenStore}
-use Rattle.cedar_cli.specs.Shown.{IsResponseText, IsStepText}
 use Rattle.cedar_cli.specs.Steps.{step_map, values_in, open_names, some_open, AreValuesSaid, IsStoreAfter}
 
 -- ---- what is decided
@@ -127,26 +126,20 @@ pub record AreTakenFrom (c : Configuration) (first : PartialResponse) (store : E
 abbrev pub decision_in : PartialResponse → Option model.Decision
 decision_in r = given_decision (rows_view r)
 
--- a response's word, on a line of its own; what is known of it; and the step that follows
-pub record IsStageText (step : Taken) (r : PartialResponse) (text : Text) : Type 0 where
-  pub known : Text
-  pub step_text : Text
-  pub known_is : IsResponseText r known
-  pub step_is : IsStepText step.number step.step step_text
-  pub whole :
-      text ≡ partial_word (decision_in r) ++ (codes "\n" ++ ((known ++ step_text) ++ codes "\n"))
+-- a response's word, on a line of its own, with lines below it
+abbrev pub IsWordOf : PartialResponse → Text → Type 0
+IsWordOf r text =
+    (lines : Text) × (text ≡ partial_word (decision_in r) ++ (codes "\n" ++ (lines ++ codes "\n")))
 
 -- that of each response that a step follows, in order
 pub data AreWordsAbove (first : PartialResponse) : List Taken → Text → Type 0 where
   no_words : AreWordsAbove first [] []
   word_below : {ts : List Taken} {above : Text} → AreWordsAbove first ts above → (t : Taken) (text : Text)
-      → IsStageText t (last_in first ts) text → AreWordsAbove first (ts ++ t ∷ []) (above ++ text)
+      → IsWordOf (last_in first ts) text → AreWordsAbove first (ts ++ t ∷ []) (above ++ text)
 
--- a response's word stands below this, on a line of its own, and then what is known of it, and nothing else; and the exit
--- status is that of its decision
+-- a response's word stands below this, on a line of its own, and the exit status is that of its decision
 pub record IsLastWord (above : Text) (r : PartialResponse) (p : Printed) : Type 0 where
   pub lines : Text
-  pub lines_are : IsResponseText r lines
   pub status_is : p.status ≡ partial_status (decision_in r)
   pub output_is : string_bytes p.output ≡ above ++ (partial_word (decision_in r) ++ (codes "\n" ++ lines))
 

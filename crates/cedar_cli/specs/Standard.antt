@@ -1,14 +1,13 @@
 -- The standard extensions alone, as plain data.
-use Rattle.std.specs.Prelude.{◌≡◌, true, [], ◌∷◌, ◌++◌, option_map, codes}
+use Rattle.std.specs.Prelude.{◌≡◌, true, [], option_map}
 use Rattle.cedar_model.specs.World as world
 use Rattle.cedar_model.specs.Rules.{StoredCalls}
 use Rattle.cedar_standard_functions.specs.Kinds.{overloaded}
 use Rattle.cedar_standard_functions.specs.Standard.{standard_named}
-use Rattle.cedar_names.specs.declared.names.CallStyle.TheVariants.{FunctionStyle}
 use Rattle.cedar_extensions.specs.declared.extensions.Extensions.{Extensions}
 use Rattle.cedar_extensions.specs.Extensions.{extensions_in, has_standard}
 use Rattle.cedar_extensions.specs.Standard.{standard_arity, StandardFirst}
-use Rattle.cedar_functions.specs.Functions.{Signature, Knowledge, these, standard_signatures}
+use Rattle.cedar_functions.specs.Functions.{Knowledge, these, standard_signatures}
 
 -- how many arguments each of their functions takes, and the types whose values `<` compares
 abbrev pub standard_extensions : world.Extensions
@@ -22,14 +21,6 @@ standard_calls n vs a = StandardFirst (standard_named n) ⊥ vs a
 -- what is known of them where a text is read
 abbrev pub standard_knowledge : Knowledge
 standard_knowledge = these (standard_signatures true)
-
--- what is known of `unknown`: it is called as a function, with the name of an unknown
-abbrev pub unknown_signature : Signature
-unknown_signature = record { name = codes "unknown"; style = FunctionStyle; arguments = 1 }
-
--- what is known where a text is read that may have unknowns: the standard functions and `unknown`, and no other
-abbrev pub knowledge_with_unknown : Knowledge
-knowledge_with_unknown = these (standard_signatures true ++ unknown_signature ∷ [])
 
 -- they are there, and no others
 pub record IsStandardAlone {X : Type 0} {F : X → Type 0} {g : _} (x : Extensions X F g) : Type 0 where

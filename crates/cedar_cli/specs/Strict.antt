@@ -162,11 +162,6 @@ finding_view kinds.Never = never
 finding_view kinds.Erring = erring
 finding_view kinds.Late = late
 
--- each of these in turn, one after the other
-abbrev pub AreEach : {A : Type 0} → (A → Text → Type 0) → List A → Text → Type 0
-AreEach Is [] t = t ≡ []
-AreEach Is (x ∷ xs) t = (one : Text) × (rest : Text) × Is x one × AreEach Is xs rest × (t ≡ one ++ rest)
-
 -- lines are put behind what is there
 abbrev pub Adds : (Text → Type 0) → Text → Text → Type 0
 Adds Are before after = (lines : Text) × Are lines × (after ≡ before ++ lines)

@@ -5,7 +5,6 @@ ghost use Rattle.cedar_json_writer.specs.Trees.{json_view};
 ghost use Rattle.cedar_extensions.specs.Extensions.{extensions_view, calls_of};
 ghost use Rattle.cedar_cli.specs.Reasons.{IsToldFor, IsKnownStoreUnread};
 ghost use Rattle.cedar_cli.specs.Batch.{asking, in_json, refusal_json, IsTold, IsRefusalLine, AreAuthorized};
-ghost use Rattle.cedar_cli.specs.Warned.{AreNotices, AreTemplatesReported, template_notices};
 ghost use Rattle.cedar_cli.specs.Batch.{AreUnauthorized, AreAnsweredBy, AreAnsweredOver, IsLineOver, line_of_answer};
 
 use crate::asked::{Asked, Source, Way};
@@ -39,8 +38,8 @@ struct Answered {
 
 /// What the policies decide for each request, of which each line of the text has one in JSON, over the same entities:
 /// a line of JSON each, in their order, as `authorize` answers that request alone. A line that is refused has the
-/// reason, and its number. The exit status is 1 where a line is refused, and else 0. How far a long run is, is reported
-/// on the terminal, if there is one.
+/// reason, and its number. The exit status is 1 where a line is refused, and else 0. How far a long run is, is told on the
+/// terminal, if there is one.
 pub fn authorize_each(
     alloc: Global,
     policies: Source<'_>,
@@ -50,7 +49,6 @@ pub fn authorize_each(
     terminal: Option<Stderr>,
 ) -> Result<Printed, Refusal>
     ensures answered { IfOk result (AreAuthorized policies.entry.text.now asked.now requests.now way) }
-    ensures warned { IfOk result (AreTemplatesReported policies.entry) }
     ensures refused { IfErr result (IsToldFor (AreUnauthorized policies.entry.text.now asked.now)) }
 {
     functions_are_computed();
@@ -83,8 +81,6 @@ fn answer_parsed(
 ) -> Result<Printed, Refusal>
     ensures answered { IfOk result (AreAnsweredBy (extensions_view extensions.now) (calls_of extensions.now)
         source.entry.text.now parsed.now.policies asked.now requests.now (in_json way)) }
-    ensures warned { IfOk result (λ p.
-        AreNotices (template_notices source.entry parsed.now.templates.items) (string_bytes p.warnings)) }
     ensures refused { IfErr result (IsToldFor
         (IsKnownStoreUnread (extensions_view extensions.now) (calls_of extensions.now) asked.now.entities
         asked.now.max_ancestors)) }
@@ -120,17 +116,16 @@ fn answer_over_given_store(
     requests: &str,
     terminal: Option<Stderr>,
     extensions: &Extensions<'_>,
-    warnings: String,
+    mut warnings: String,
 ) -> Result<Printed, Refusal>
     ensures answered { IfOk result (AreAnsweredBy (extensions_view extensions.now) (calls_of extensions.now)
         deciding.entry.places.now.source.text.now deciding.entry.policies.now asked.now requests.now
         deciding.entry.way) }
-    ensures warnings { IfOk result (λ p. p.warnings ≡ warnings) }
     ensures refused { IfErr result (IsToldFor
         (IsKnownStoreUnread (extensions_view extensions.now) (calls_of extensions.now) asked.now.entities
         asked.now.max_ancestors)) }
 {
-    let store = known_store(alloc, asked, extensions)?;
+    let store = known_store(alloc, asked, extensions, &mut warnings)?;
     let batch = Batch {
         deciding,
         entities: &store.entities,
@@ -142,7 +137,7 @@ fn answer_over_given_store(
     Ok(printed?)
 }
 
-// What each request is asked over, and of whom, and where it is reported how far that is, if anywhere.
+// What each request is asked over, and of whom, and where it is told how far that is, if anywhere.
 #[derive(Clone, Copy)]
 struct Batch<'p, 'm, 't> {
     deciding: Deciding<'p>,
@@ -158,10 +153,9 @@ fn answer_text(
     extensions: &Extensions<'_>,
     warnings: String,
 ) -> Result<Printed, AllocError>
-    ensures answered { IfOk result (AreAnsweredOver (extensions_view extensions.now) (calls_of extensions.now)
+    ensures { IfOk result (AreAnsweredOver (extensions_view extensions.now) (calls_of extensions.now)
         batch.entry.deciding.places.now.source.text.now batch.entry.deciding.policies.now batch.entry.entities.now
         batch.entry.asked.now batch.entry.deciding.way (lines requests.now)) }
-    ensures warnings { IfOk result (λ p. p.warnings ≡ warnings) }
 {
     let lines = lines_of(alloc, requests)?;
     let printed = answer_lines(alloc, batch, &lines, extensions, warnings);
@@ -184,10 +178,9 @@ fn answer_lines(
     extensions: &Extensions<'_>,
     warnings: String,
 ) -> Result<Printed, AllocError>
-    ensures answered { IfOk result (AreAnsweredOver (extensions_view extensions.now) (calls_of extensions.now)
+    ensures { IfOk result (AreAnsweredOver (extensions_view extensions.now) (calls_of extensions.now)
         batch.entry.deciding.places.now.source.text.now batch.entry.deciding.policies.now batch.entry.entities.now
         batch.entry.asked.now batch.entry.deciding.way (map (λ x. x.now) lines.now)) }
-    ensures warnings { IfOk result (λ p. p.warnings ≡ warnings) }
 {
     let mut printed = Printed {
         output: String::new(alloc),
@@ -207,7 +200,6 @@ fn put_answer(answered: Answered, printed: &mut Printed) -> Result<(), AllocErro
     ensures output { OnOk result (string_bytes printed.new.output
         ≡ string_bytes printed.old.output ++ string_bytes answered.line) }
     ensures status { OnOk result (printed.new.status ≡ cond answered.is_refused 1 printed.old.status) }
-    ensures warnings { OnOk result (printed.new.warnings ≡ printed.old.warnings) }
 {
     if answered.is_refused {
         printed.status = 1;

@@ -1,5 +1,5 @@
 //! What policies decide.
-ghost use Rattle.std.specs.Prelude.{◌≡◌, ◌++◌, ◌==◌, false, [], length, IfOk, OnOk, IfErr, codes, string_bytes};
+ghost use Rattle.std.specs.Prelude.{◌≡◌, ◌++◌, ◌==◌, false, length, IfOk, OnOk, IfErr, codes, string_bytes};
 ghost use Rattle.std.specs.Prelude.{option_map};
 ghost use Rattle.cedar_decisions.specs.Decisions.{decision_view};
 ghost use Rattle.json.specs.Print.{print};
@@ -10,20 +10,16 @@ ghost use Rattle.cedar_layers.specs.Policies.{policy_view};
 ghost use Rattle.cedar_layers.specs.PolicySets.{policies_view};
 ghost use Rattle.cedar_authorizer.specs.responses.Responses.{has_id, response_view};
 ghost use Rattle.cedar_cli.specs.Printing.{status, word, partial_status, partial_word};
-ghost use Rattle.cedar_cli.specs.Authorized.{IsAuthorized, IsAnsweredOver, IsResponseTo};
+ghost use Rattle.cedar_cli.specs.Authorized.{IsAuthorized, IsAnsweredBy, IsAnsweredOver, IsResponseTo};
 ghost use Rattle.cedar_cli.specs.Reasons.{IsToldFor, IsUnauthorized, IsAskedUnread, IsRequestUnread};
 ghost use Rattle.cedar_cli.specs.Authorized.{AreReasonsIf, AreReasonLines, IsWord, IsDocument, IsPrinted};
 ghost use Rattle.cedar_cli.specs.Inputs.{AddsNameLine};
 ghost use Rattle.cedar_cli.specs.Named.{policy_name, IsNameLine, AreNameLines};
 ghost use Rattle.cedar_cli.specs.Visible.{IsVisible};
-ghost use Rattle.cedar_cli.specs.Linted.{IsReported, IsReportedOf, IsReportedBy, IsReportedAlone};
-ghost use Rattle.cedar_cli.specs.Warned.{IsReportedOver, IsWarnedOf};
-ghost use Rattle.cedar_cli.specs.Warned.{response_notices, error_notices};
 
 use crate::asked::{Asked, Source, Way};
 use crate::documents::{holds_id, response_document};
 use crate::limits::text_limit;
-use crate::lints::push_lints;
 use crate::places::Places;
 use crate::policies::{push_name, read_over};
 use crate::reading::whole_request;
@@ -42,7 +38,7 @@ use cedar_policy_core::parser::laws::known_calls_of_policies;
 use std::alloc::{AllocError, Global};
 use std::collections::HashSet;
 
-/// What is printed, what is reported on standard error beside it, and the exit status.
+/// What is printed, what is told on standard error beside it, and the exit status.
 #[derive(Debug, Drop)]
 pub struct Printed {
     pub output: String,
@@ -146,10 +142,8 @@ pub fn line_of(alloc: Global, document: &JsonValue) -> Result<String, AllocError
 }
 
 /// What the policies decide for the request: `ALLOW` or `DENY` and, where that is asked for, the policies that
-/// determined it; or all this as one JSON value. Reported are, as warnings, the templates without a link, which decide
-/// nothing; then the records in the context and in the entities that look like an entity, and what policies that forbid
-/// name and neither the entities nor the request have, where entities are given; and then the errors of those that
-/// erred, and no more; as JSON the errors stand in the value.
+/// determined it; or all this as one JSON value. The errors of those that erred, and the templates, which decide
+/// nothing, are told as warnings; as JSON the errors stand in the value.
 pub fn authorize(
     alloc: Global,
     policies: Source<'_>,
@@ -157,7 +151,6 @@ pub fn authorize(
     way: Way,
 ) -> Result<Printed, Refusal>
     ensures answered { IfOk result (IsAuthorized policies.entry.text.now asked.now way) }
-    ensures warned { IfOk result (IsReported policies.entry asked.now way) }
     ensures refused { IfErr result (IsToldFor (IsUnauthorized policies.entry.text.now asked.now)) }
 {
     functions_are_computed();
@@ -177,8 +170,8 @@ fn authorize_parsed(
     way: Way,
     extensions: &Extensions<'_>,
 ) -> Result<Printed, Refusal>
-    ensures reported { IfOk result (IsReportedOf (extensions_view extensions.now) (calls_of extensions.now)
-        source.entry parsed.now asked.now way) }
+    ensures answered { IfOk result (IsAnsweredBy (extensions_view extensions.now) (calls_of extensions.now)
+        source.entry.text.now parsed.now.policies asked.now way) }
     ensures refused { IfErr result (IsToldFor
         (IsAskedUnread (extensions_view extensions.now) (calls_of extensions.now) asked.now)) }
 {
@@ -198,16 +191,15 @@ fn authorize_over_given_store(
     deciding: Deciding<'_>,
     asked: &Asked<'_, '_>,
     extensions: &Extensions<'_>,
-    warnings: String,
+    mut warnings: String,
 ) -> Result<Printed, Refusal>
-    ensures reported { IfOk result (IsReportedBy (extensions_view extensions.now) (calls_of extensions.now)
-        deciding.entry.places.now.source deciding.entry.policies.now asked.now deciding.entry.way
-        (string_bytes warnings)) }
+    ensures answered { IfOk result (IsAnsweredBy (extensions_view extensions.now) (calls_of extensions.now)
+        deciding.entry.places.now.source.text.now deciding.entry.policies.now asked.now deciding.entry.way) }
     ensures refused { IfErr result (IsToldFor
         (IsAskedUnread (extensions_view extensions.now) (calls_of extensions.now) asked.now)) }
 {
-    let store = known_store(alloc, asked, extensions)?;
-    let printed = authorize_alone(
+    let store = known_store(alloc, asked, extensions, &mut warnings)?;
+    let printed = authorize_over_store(
         alloc,
         deciding,
         &store.entities,
@@ -217,29 +209,6 @@ fn authorize_over_given_store(
     );
     drop(store);
     printed
-}
-
-// What is decided of one request, with what looks right in what it is asked over and is not.
-fn authorize_alone(
-    alloc: Global,
-    deciding: Deciding<'_>,
-    entities: &Entities,
-    asked: &Asked<'_, '_>,
-    extensions: &Extensions<'_>,
-    mut warnings: String,
-) -> Result<Printed, Refusal>
-    ensures reported { IfOk result (IsReportedAlone (extensions_view extensions.now) (calls_of extensions.now)
-        deciding.entry.places.now.source deciding.entry.policies.now entities.now asked.now deciding.entry.way
-        (string_bytes warnings)) }
-    ensures refused { IfErr result (IsToldFor
-        (IsRequestUnread (extensions_view extensions.now) (calls_of extensions.now) asked.now)) }
-{
-    let request = whole_request(alloc, asked, extensions)?;
-    push_lints(alloc, deciding, asked, &request, entities, &mut warnings)?;
-    let response = decide_request(alloc, request, deciding, entities, extensions)?;
-    let printed = print_response(alloc, deciding, &response, warnings);
-    drop(response);
-    Ok(printed?)
 }
 
 pub(crate) fn authorize_over_store(
@@ -253,9 +222,6 @@ pub(crate) fn authorize_over_store(
     ensures answered { IfOk result (IsAnsweredOver (extensions_view extensions.now) (calls_of extensions.now)
         deciding.entry.places.now.source.text.now deciding.entry.policies.now entities.now asked.now
         deciding.entry.way) }
-    ensures reported { IfOk result (IsReportedOver (extensions_view extensions.now) (calls_of extensions.now)
-        deciding.entry.places.now.source deciding.entry.policies.now entities.now asked.now deciding.entry.way
-        (string_bytes warnings)) }
     ensures refused { IfErr result (IsToldFor
         (IsRequestUnread (extensions_view extensions.now) (calls_of extensions.now) asked.now)) }
 {
@@ -266,8 +232,8 @@ pub(crate) fn authorize_over_store(
     Ok(printed?)
 }
 
-/// The response to the request, within the limit that is set or else within that of the text, which no condition that
-/// was read meets where nothing is unknown.
+/// The response to the request. Nothing is unknown in what is decided here, so that no condition that was read meets the
+/// limit of the text.
 pub(crate) fn decide_request(
     alloc: Global,
     request: Request,
@@ -291,10 +257,8 @@ fn print_response(
     response: &Response,
     warnings: String,
 ) -> Result<Printed, AllocError>
-    ensures printed { IfOk result (IsPrinted deciding.entry.places.now.source.text.now deciding.entry.policies.now
+    ensures { IfOk result (IsPrinted deciding.entry.places.now.source.text.now deciding.entry.policies.now
         deciding.entry.way response.now) }
-    ensures warned { IfOk result (IsWarnedOf (response_notices deciding.entry.places.now.source
-        deciding.entry.policies.now deciding.entry.way response.now) (string_bytes warnings)) }
 {
     if deciding.way.is_json {
         response_as_json(alloc, deciding, response, warnings)
@@ -309,9 +273,8 @@ fn response_as_json(
     response: &Response,
     warnings: String,
 ) -> Result<Printed, AllocError>
-    ensures printed { IfOk result (IsDocument deciding.entry.places.now.source.text.now
+    ensures { IfOk result (IsDocument deciding.entry.places.now.source.text.now
         (policies_view deciding.entry.policies.now) response.now) }
-    ensures warned { IfOk result (IsWarnedOf [] (string_bytes warnings)) }
 {
     let document = response_document(alloc, deciding, response)?;
     let printed = print_document(alloc, Some(response.decision), &document, warnings);
@@ -325,11 +288,8 @@ fn response_as_text(
     response: &Response,
     mut warnings: String,
 ) -> Result<Printed, AllocError>
-    ensures printed { IfOk result (IsWord deciding.entry.way.is_verbose (policies_view deciding.entry.policies.now)
+    ensures { IfOk result (IsWord deciding.entry.way.is_verbose (policies_view deciding.entry.policies.now)
         response.now) }
-    ensures warned { IfOk result (IsWarnedOf (error_notices deciding.entry.places.now.source
-        (policies_view deciding.entry.policies.now) deciding.entry.way.limit response.now.diagnostics.errors.items)
-        (string_bytes warnings)) }
 {
     push_errors(alloc, deciding, &response.diagnostics.errors, &mut warnings)?;
     let lines = reason_lines(alloc, deciding, response)?;
@@ -429,7 +389,7 @@ fn push_name_line(alloc: Global, policy: &Policy, lines: &mut String) -> Result<
     Ok(())
 }
 
-/// Puts how the policy is called after the rest, as it is printed: what could be taken for another line is shown.
+/// Puts how the policy is called behind the rest, as it is told: what could be taken for another line is shown.
 pub fn push_visible_name(
     alloc: Global,
     policy: &Policy,

@@ -9,13 +9,12 @@ ghost use Rattle.cedar_layers.specs.PolicySets.{policies_view};
 ghost use Rattle.cedar_authorizer.specs.responses.Readers.{policies_left};
 ghost use Rattle.cedar_authorizer.specs.responses.Responses.{has_id, error_view, errors_view, error_place};
 ghost use Rattle.cedar_authorizer.specs.responses.Rows.{rows_view};
-ghost use Rattle.cedar_json_writer.specs.Errors.{error_members};
 ghost use Rattle.cedar_json_writer.specs.Reading.{policy_ids};
 ghost use Rattle.cedar_json_writer.specs.Texts.{texts_json, object_of};
 ghost use Rattle.cedar_json_writer.specs.Trees.{json_view, members_seen};
 ghost use Rattle.cedar_cli.specs.Named.{annotated, id_where, ids_where, erred_ids, is_named, is_told, stands_in};
 ghost use Rattle.cedar_cli.specs.Documents.{IsResponseDocument, IsErrorsArray, IsPlacedError, place_members};
-ghost use Rattle.cedar_cli.specs.Documents.{AddsSaid, count_json};
+ghost use Rattle.cedar_cli.specs.Documents.{count_json};
 ghost use Rattle.cedar_cli.specs.Documents.{name_under, name_where, names_where};
 ghost use Rattle.cedar_cli.specs.Stages.{IsStageDocument, AreDocuments, AreDocumented, step_members, step_files};
 ghost use Rattle.cedar_cli.specs.Inputs.{AddsDocument, AddsPlacedError, NamesNext};
@@ -33,7 +32,6 @@ use cedar_policy_core::authorizer::{
 };
 use cedar_policy_core::entities::json::{JsonValue, put_item, put_member, text_to_json};
 use cedar_policy_core::parser::Loc;
-use cedar_response_json::travelled_message;
 use std::alloc::{AllocError, Global};
 use std::collections::HashSet;
 use std::rc::RcStr;
@@ -324,8 +322,8 @@ fn ids_of_errors(
     Ok(ids)
 }
 
-/// The id of the policy that erred.
-pub(crate) fn erred_id(error: &AuthorizationError) -> &PolicyID
+// The id of the policy that erred.
+fn erred_id(error: &AuthorizationError) -> &PolicyID
     ensures { policy_id_text result.now ≡ (error_view error.now).0 }
 {
     let AuthorizationError::PolicyEvaluationError { id, error: _ } = error;
@@ -408,44 +406,13 @@ fn error_item(
         (λ j. IsPlacedError deciding.entry.places.now.source.text.now error.now (json_view j)) }
 {
     let mut members: Vec<(RcStr, JsonValue)> = Vec::new(alloc);
-    put_error(alloc, error, deciding.way.limit, &mut members)?;
+    put_error_within(alloc, error, deciding.way.limit, &mut members)?;
     put_place(alloc, deciding.places, place_of(error), &mut members)?;
     Ok(JsonValue::Object(members))
 }
 
-// The policy's id and what its error says; of one that was read from a line what it said where it was written.
-#[tactic(auto, using(crate::proofs::Messages::messages))]
-fn put_error(
-    alloc: Global,
-    error: &AuthorizationError,
-    limit: Option<usize>,
-    members: &mut Vec<(RcStr, JsonValue)>,
-) -> Result<(), AllocError>
-    ensures { OnOk result
-        (AddsSaid (error_view error.now) (members_seen members.old.items) (members_seen members.new.items)) }
-{
-    let AuthorizationError::PolicyEvaluationError { id, error: why } = error;
-    match travelled_message(why) {
-        Some(message) => put_travelled(alloc, id, message, members),
-        None => put_error_within(alloc, error, limit, members),
-    }
-}
-
-fn put_travelled(
-    alloc: Global,
-    id: &PolicyID,
-    message: &str,
-    members: &mut Vec<(RcStr, JsonValue)>,
-) -> Result<(), AllocError>
-    ensures { OnOk result (members_seen members.new.items
-        ≡ members_seen members.old.items ++ error_members (policy_id_text id.now) message.now) }
-{
-    put_text(alloc, "policyId", id.to_string(alloc)?.as_str(), members)?;
-    put_text(alloc, "message", message, members)
-}
-
-/// Where the error arose.
-pub(crate) fn place_of(error: &AuthorizationError) -> Option<Loc>
+// Where the error arose.
+fn place_of(error: &AuthorizationError) -> Option<Loc>
     ensures { result ≡ error_place error.now }
 {
     let AuthorizationError::PolicyEvaluationError { id: _, error } = error;

@@ -1,16 +1,14 @@
 //! What an expression evaluates to.
 ghost use Rattle.std.specs.Prelude.{◌≡◌, ◌≢◌, true, IfOk, IfErr, string_bytes};
-ghost use Rattle.std.specs.Option.{unwrap_or};
 ghost use Rattle.cedar_model.specs.Failures.{out_of_memory, fails, answers_value};
 ghost use Rattle.cedar_errors.specs.Failures.{failure_of};
 ghost use Rattle.cedar_errors.specs.Answers.{value_answer};
 ghost use Rattle.cedar_extensions.specs.Extensions.{extensions_view, calls_of};
 ghost use Rattle.cedar_functions.specs.Functions.{these, signatures_of};
-ghost use Rattle.cedar_heights.specs.Limits.{AnswersAreNoHigher};
 ghost use Rattle.cedar_text_parser.specs.Reading.{IsRead};
-ghost use Rattle.cedar_cli.specs.Evaluated.{IsRequestOr, IsAnswerBy, IsAnswerOver, IsAnswerOf, IsTextLine, IsOfHeight};
+ghost use Rattle.cedar_cli.specs.Evaluated.{IsRequestOr, IsAnswerBy, IsAnswerOver, IsAnswerOf, IsTextLine, IsLimitOr};
 ghost use Rattle.cedar_cli.specs.Evaluated.{IsValuePrinted, IsEvaluated, IsExpressionUnread, IsUnvaluedOver};
-ghost use Rattle.cedar_cli.specs.Evaluated.{IsUnvalued, IsUnevaluated, IsEvaluatedUnread, levels_counted};
+ghost use Rattle.cedar_cli.specs.Evaluated.{IsUnvalued, IsUnevaluated, IsEvaluatedUnread};
 ghost use Rattle.cedar_cli.specs.Questions.{levels};
 ghost use Rattle.cedar_cli.specs.Reasons.{IsToldFor};
 
@@ -24,7 +22,6 @@ use crate::refusal::{Refusal, refuse_unparsed, refuse_with_lines};
 use crate::stores::{Store, known_store};
 use crate::visible::visible;
 use cedar_policy_core::ast::{Expr, Request, SlotEnv, Value};
-use cedar_policy_core::authorizer::heights::laws::standard_answers_are_low;
 use cedar_policy_core::entities::Entities;
 use cedar_policy_core::evaluator::{EvaluationError, Evaluator};
 use cedar_policy_core::extensions::Extensions;
@@ -32,10 +29,9 @@ use cedar_policy_core::parser::{Functions, parse_expr};
 use cedar_policy_core::writing::to_cedar;
 use std::alloc::{AllocError, Global};
 
-/// The value of the expression, in Cedar's syntax or in Cedar's JSON. What is not said of the request is unknown,
-/// except for a context, which is empty: an expression that needs what is unknown is refused. So is what is said in
-/// which an unknown stands. Without a limit as many levels are evaluated as the expression can need, so that it never
-/// meets one.
+/// The value of the expression, in Cedar's syntax or in Cedar's JSON. What is not said of the request is unknown, but
+/// for a context, which is empty: an expression that needs what is unknown is refused. So is what is said in which an
+/// unknown stands.
 pub fn evaluate_expression(
     alloc: Global,
     source: Source<'_>,
@@ -47,12 +43,20 @@ pub fn evaluate_expression(
     ensures refused { IfErr result (IsToldFor (IsUnevaluated source.entry.text.now asked.now limit is_json)) }
 {
     let extensions = Extensions::all_available();
-    standard_answers_are_low(&extensions);
     let expr = expression(alloc, source, &extensions)?;
-    let value = evaluated_with(alloc, source, &expr, asked, limit, &extensions);
+    let mut warnings = String::new(alloc);
+    let value = evaluated_with(
+        alloc,
+        source,
+        &expr,
+        asked,
+        limit,
+        &extensions,
+        &mut warnings,
+    );
     drop(expr);
     let value = value?;
-    let printed = print_value(alloc, source, &value, is_json);
+    let printed = print_value(alloc, source, &value, is_json, warnings);
     drop(value);
     printed
 }
@@ -83,14 +87,14 @@ fn evaluated_with(
     asked: &Asked<'_, '_>,
     limit: Option<usize>,
     extensions: &Extensions<'_>,
+    warnings: &mut String,
 ) -> Result<Value, Refusal>
-    requires { AnswersAreNoHigher (calls_of extensions.now) 3 }
     ensures value { IfOk result (λ v. IsAnswerOf (extensions_view extensions.now) (calls_of extensions.now) expr.now
         asked.now limit (answers_value v.what)) }
     ensures refused { IfErr result (IsToldFor (IsUnvalued (extensions_view extensions.now) (calls_of extensions.now)
         expr.now asked.now limit)) }
 {
-    let store = known_store(alloc, asked, extensions)?;
+    let store = known_store(alloc, asked, extensions, warnings)?;
     let value = evaluated_over(alloc, source, expr, &store, asked, limit, extensions);
     drop(store);
     value
@@ -105,9 +109,6 @@ fn evaluated_over(
     limit: Option<usize>,
     extensions: &Extensions<'_>,
 ) -> Result<Value, Refusal>
-    requires low { AnswersAreNoHigher (calls_of extensions.now) 3 }
-    requires height { IsOfHeight (extensions_view extensions.now) (calls_of extensions.now) asked.now.entities
-        store.now }
     ensures value { IfOk result (λ v. IsAnswerOver (extensions_view extensions.now) (calls_of extensions.now) expr.now
         store.now.entities asked.now limit (answers_value v.what)) }
     ensures refused { IfErr result (IsToldFor (IsUnvaluedOver (extensions_view extensions.now)
@@ -123,7 +124,7 @@ fn evaluated_over(
 
 // The limit that is set, or what the expression can need.
 fn limit_or(limit: Option<usize>, expr: &Expr, request: &Request, store: &Store) -> usize
-    ensures { result ≡ unwrap_or limit (levels_counted expr.now request.now store.now.height) }
+    ensures { IsLimitOr limit result }
 {
     match limit {
         Some(limit) => limit,
@@ -171,6 +172,7 @@ fn print_value(
     source: Source<'_>,
     value: &Value,
     is_json: bool,
+    warnings: String,
 ) -> Result<Printed, Refusal>
     ensures printed { IfOk result (IsValuePrinted is_json value.now.what) }
     ensures refused { IfErr result (IsToldFor (is_json ≡ true)) }
@@ -182,7 +184,7 @@ fn print_value(
     };
     Ok(Printed {
         output,
-        warnings: String::new(alloc),
+        warnings,
         status: 0,
     })
 }

@@ -5,8 +5,7 @@ ghost use Rattle.cedar_layers.specs.PolicySets.{policies_view};
 ghost use Rattle.cedar_explain_printer.specs.Lines.{line_view};
 ghost use Rattle.cedar_cli.specs.Reasons.{IsToldFor, IsUnauthorized, IsAskedUnread, IsRequestUnread};
 ghost use Rattle.cedar_cli.specs.Explained as specs;
-ghost use Rattle.cedar_cli.specs.Explained.{IsExplained, AreExplained, IsBelow};
-ghost use Rattle.cedar_cli.specs.Warned.{IsReportedBelow, IsBelowOf, IsBelowBy, IsBelowOver, IsWarnedOf, error_notices};
+ghost use Rattle.cedar_cli.specs.Explained.{IsExplained, IsExplainedBy, IsExplainedOver, AreExplained, IsBelow};
 ghost use Rattle.cedar_cli.specs.Explained.{AreToldLines, IsToldLine, IsWordAbove};
 
 use crate::asked::{Asked, Source, Way};
@@ -29,7 +28,7 @@ use cedar_policy_core::parser::laws::known_calls_of_policies;
 use cedar_policy_core::parser::{Loc, ParsedPolicies};
 use std::alloc::{AllocError, Global};
 
-// The policies that decide, and whether the values of their parts are printed.
+// The policies that decide, and whether the values of their parts are told.
 #[derive(Clone, Copy)]
 struct Explaining<'p> {
     deciding: Deciding<'p>,
@@ -38,8 +37,7 @@ struct Explaining<'p> {
 
 /// What the policies decide for the request, as `authorize` prints it, and below that why: if no policy is a reason,
 /// the parts of permits that alone keep them from applying; then what each policy came to, and the parts that decide
-/// it, each with its place and with what it came to. Where values are left out, a value that is no boolean is not
-/// printed.
+/// it, each with its place and with what it came to. Where values are left out, a value that is no boolean is not told.
 pub fn authorize_and_explain(
     alloc: Global,
     policies: Source<'_>,
@@ -48,7 +46,6 @@ pub fn authorize_and_explain(
     has_values: bool,
 ) -> Result<Printed, Refusal>
     ensures answered { IfOk result (IsExplained policies.entry.text.now asked.now way has_values) }
-    ensures warned { IfOk result (IsReportedBelow policies.entry asked.now way has_values) }
     ensures refused { IfErr result (IsToldFor (IsUnauthorized policies.entry.text.now asked.now)) }
 {
     functions_are_computed();
@@ -77,8 +74,8 @@ fn explain_parsed(
     has_values: bool,
     extensions: &Extensions<'_>,
 ) -> Result<Printed, Refusal>
-    ensures reported { IfOk result (IsBelowOf (extensions_view extensions.now) (calls_of extensions.now)
-        source.entry parsed.now asked.now way has_values) }
+    ensures answered { IfOk result (IsExplainedBy (extensions_view extensions.now) (calls_of extensions.now)
+        source.entry.text.now parsed.now.policies asked.now way has_values) }
     ensures refused { IfErr result (IsToldFor
         (IsAskedUnread (extensions_view extensions.now) (calls_of extensions.now) asked.now)) }
 {
@@ -102,15 +99,15 @@ fn explain_over_given_store(
     explaining: Explaining<'_>,
     asked: &Asked<'_, '_>,
     extensions: &Extensions<'_>,
-    warnings: String,
+    mut warnings: String,
 ) -> Result<Printed, Refusal>
-    ensures reported { IfOk result (IsBelowBy (extensions_view extensions.now) (calls_of extensions.now)
-        explaining.entry.deciding.places.now.source explaining.entry.deciding.policies.now asked.now
-        explaining.entry.deciding.way explaining.entry.has_values (string_bytes warnings)) }
+    ensures answered { IfOk result (IsExplainedBy (extensions_view extensions.now) (calls_of extensions.now)
+        explaining.entry.deciding.places.now.source.text.now explaining.entry.deciding.policies.now asked.now
+        explaining.entry.deciding.way explaining.entry.has_values) }
     ensures refused { IfErr result (IsToldFor
         (IsAskedUnread (extensions_view extensions.now) (calls_of extensions.now) asked.now)) }
 {
-    let store = known_store(alloc, asked, extensions)?;
+    let store = known_store(alloc, asked, extensions, &mut warnings)?;
     let printed = explain_over_store(
         alloc,
         explaining,
@@ -131,9 +128,9 @@ fn explain_over_store(
     extensions: &Extensions<'_>,
     warnings: String,
 ) -> Result<Printed, Refusal>
-    ensures reported { IfOk result (IsBelowOver (extensions_view extensions.now) (calls_of extensions.now)
-        explaining.entry.deciding.places.now.source explaining.entry.deciding.policies.now entities.now asked.now
-        explaining.entry.deciding.way explaining.entry.has_values (string_bytes warnings)) }
+    ensures answered { IfOk result (IsExplainedOver (extensions_view extensions.now) (calls_of extensions.now)
+        explaining.entry.deciding.places.now.source.text.now explaining.entry.deciding.policies.now entities.now
+        asked.now explaining.entry.deciding.way explaining.entry.has_values) }
     ensures refused { IfErr result (IsToldFor
         (IsRequestUnread (extensions_view extensions.now) (calls_of extensions.now) asked.now)) }
 {
@@ -204,11 +201,8 @@ fn print_above(
     below: &str,
     mut warnings: String,
 ) -> Result<Printed, AllocError>
-    ensures printed { IfOk result (IsWordAbove deciding.entry.way.is_verbose
-        (policies_view deciding.entry.policies.now) response.now below.now) }
-    ensures warned { IfOk result (IsWarnedOf (error_notices deciding.entry.places.now.source
-        (policies_view deciding.entry.policies.now) deciding.entry.way.limit response.now.diagnostics.errors.items)
-        (string_bytes warnings)) }
+    ensures { IfOk result (IsWordAbove deciding.entry.way.is_verbose (policies_view deciding.entry.policies.now)
+        response.now below.now) }
 {
     push_errors(alloc, deciding, &response.diagnostics.errors, &mut warnings)?;
     let mut lines = reason_lines(alloc, deciding, response)?;

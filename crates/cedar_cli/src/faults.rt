@@ -1,5 +1,5 @@
 //! Where a text that is not read as JSON is at fault.
-use json::{Reader, Scratch, Token};
+use json::{MAX_DEPTH, Reader, Scratch, Token};
 use std::alloc::{AllocError, Global};
 use std::collections::BTreeSet;
 use std::rc::RcStr;
@@ -44,15 +44,14 @@ pub(crate) struct Repeated {
 }
 
 /// What is wrong with a text that is no JSON: the byte where a token begins that can't stand there, or in it the escape
-/// or the character that can't; the one that opens one level more than may be open, which are so many; else the end of
-/// the text, where more is due.
-pub(crate) fn syntax_fault(alloc: Global, text: &str, most: usize) -> Result<Fault, AllocError> {
+/// or the character that can't; the one that opens one level more than may be open; else the end of the text, where
+/// more is due.
+pub(crate) fn syntax_fault(alloc: Global, text: &str) -> Result<Fault, AllocError> {
     let mut scratch = Scratch::new(alloc);
     let mut reader = Reader::new(text, &mut scratch)?;
     let mut place = Place {
         open: Vec::new(alloc),
         due: Due::Value,
-        most,
     };
     for _ in 0..text.len() {
         let start = reader.offset();
@@ -60,7 +59,7 @@ pub(crate) fn syntax_fault(alloc: Global, text: &str, most: usize) -> Result<Fau
             Some(token) => {
                 let is_bad = matches!(token, Token::Bad);
                 if !place.takes(token)? {
-                    let is_too_deep = !is_bad && place.open.len() == most;
+                    let is_too_deep = !is_bad && place.open.len() == MAX_DEPTH;
                     return Ok(fault_at(text, start, place.due, is_too_deep));
                 }
             }
@@ -256,8 +255,6 @@ enum Due {
 struct Place {
     open: Vec<bool>,
     due: Due,
-    // How many arrays and objects may be open.
-    most: usize,
 }
 
 impl Place {
@@ -278,7 +275,7 @@ impl Place {
     }
 
     fn opens(&mut self, is_object: bool) -> Result<bool, AllocError> {
-        if !self.is_value_due() || self.open.len() == self.most {
+        if !self.is_value_due() || self.open.len() == MAX_DEPTH {
             return Ok(false);
         }
         match self.open.push(is_object) {

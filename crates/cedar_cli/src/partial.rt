@@ -6,36 +6,40 @@ ghost use Rattle.cedar_layers.specs.PolicySets.{policies_view};
 ghost use Rattle.cedar_functions.specs.Functions.{these, signatures_of};
 ghost use Rattle.cedar_cli.specs.Printing.{partial_word};
 ghost use Rattle.cedar_cli.specs.Stages.{IsPartiallyAuthorized, IsPartlyAnsweredBy, IsPartlyAnsweredOver};
-ghost use Rattle.cedar_cli.specs.Stages.{ArePrintedAs, AreInDocument, AreWords, AreWordsAbove, IsStageText, IsLastWord};
+ghost use Rattle.cedar_cli.specs.Stages.{ArePrintedAs, AreInDocument, AreWords, AreWordsAbove, IsWordOf, IsLastWord};
 ghost use Rattle.cedar_cli.specs.Inputs.{AddsWord};
-ghost use Rattle.cedar_cli.specs.Shown.{IsResponseText, IsStepText};
 ghost use Rattle.cedar_cli.specs.Reasons.{IsToldFor};
 ghost use Rattle.cedar_cli.specs.Stopped.{IsPartlyUnanswered, IsPartlyUnansweredBy, IsPartlyUnansweredOver};
 
 use crate::asked::{Asked, Source, Step, Way};
-use crate::decisions::{Printed, partial_word_of, print_decision, print_document};
+use crate::decisions::{
+    Printed, partial_word_of, print_decision, print_document, push_visible_name,
+};
 use crate::documents::stages_document;
+use crate::left::{entities_left, unknown_names};
 use crate::places::Places;
 use crate::policies::read_over;
 use crate::refusal::Refusal;
-use crate::shown::{push_response, push_step};
 use crate::stages::{Stages, all_stages};
 use crate::steps::{Taken, response_after};
 use crate::stores::{Store, given_store};
 use crate::undecided::push_why_open;
+use crate::visible::push_visible;
 use crate::warnings::{Deciding, push_errors, push_templates};
-use cedar_policy_core::ast::PolicySet;
-use cedar_policy_core::authorizer::{Decision, PartialResponse};
+use cedar_policy_core::ast::{EntityUID, Policy, PolicySet};
+use cedar_policy_core::authorizer::{Decision, PartialResponse, ReportedPolicies};
 use cedar_policy_core::extensions::Extensions;
 use cedar_policy_core::parser::ParsedPolicies;
+use cedar_policy_core::writing::policy_to_cedar;
 use std::alloc::{AllocError, Global};
+use std::rc::RcStr;
 
 /// What is known of what the policies decide, where these are the functions: the decision, if it is given, the policies
 /// that must and that may determine it, and what is left of each policy; and the same behind each step, below a line
 /// that says which step it is, or all this as one JSON value. A step takes values for unknowns, and perhaps another
 /// store; beside these each entity that a store lacked is itself. A step that names no unknown and brings no entities
-/// is not taken. The status is that of the last decision, 4 where that is not known. The errors of policies are
-/// reported as warnings, and so is what does not show in the answer; as JSON the errors stand in the value.
+/// is not taken. The status is that of the last decision, 4 where that is not known. The errors of policies are told as
+/// warnings, and so is what does not show in the answer; as JSON the errors stand in the value.
 pub fn partially_authorize(
     alloc: Global,
     extensions: &Extensions<'_>,
@@ -135,7 +139,7 @@ fn partially_authorize_over_store(
 }
 
 /// The stages as they are printed in this way: each response, of policies of this text, and the steps between them. The
-/// errors of policies and why the last one does not decide are reported after these warnings.
+/// errors of policies and why the last one does not decide are told behind these warnings.
 pub fn print_stages_of(
     alloc: Global,
     source: Source<'_>,
@@ -215,7 +219,7 @@ fn stages_as_text(
     printed
 }
 
-// Each response that a step follows, with the step below it. The errors after each step are reported.
+// Each response that a step follows, with the step below it. The errors behind each step are told.
 fn text_above(
     alloc: Global,
     deciding: Deciding<'_>,
@@ -241,7 +245,7 @@ fn push_stage(
     taken: &Taken<'_>,
     above: &mut String,
 ) -> Result<(), AllocError>
-    ensures { OnOk result (AddsWord taken.now response.now (string_bytes above.old) (string_bytes above.new)) }
+    ensures { OnOk result (AddsWord response.now (string_bytes above.old) (string_bytes above.new)) }
 {
     let text = stage_text(alloc, response, taken)?;
     above.push_str(text.as_str())?;
@@ -283,7 +287,7 @@ fn stage_text(
     response: &PartialResponse,
     taken: &Taken<'_>,
 ) -> Result<String, AllocError>
-    ensures { IfOk result (λ s. IsStageText taken.now response.now (string_bytes s)) }
+    ensures { IfOk result (λ s. IsWordOf response.now (string_bytes s)) }
 {
     let lines = stage_lines(alloc, response, taken)?;
     let text = text_below_word(alloc, response.decision(), lines.as_str());
@@ -295,10 +299,7 @@ fn stage_lines(
     alloc: Global,
     response: &PartialResponse,
     taken: &Taken<'_>,
-) -> Result<String, AllocError>
-    ensures { IfOk result (λ s. (known : _) × (step : _) × IsResponseText response.now known
-        × IsStepText taken.now.number taken.now.step step × (string_bytes s ≡ known ++ step)) }
-{
+) -> Result<String, AllocError> {
     let mut lines = String::new(alloc);
     push_response(alloc, response, &mut lines)?;
     push_step(alloc, taken.number, &taken.step, &mut lines)?;
@@ -317,6 +318,22 @@ fn text_below_word(
     format!(in alloc; "{word}\n{lines}\n")
 }
 
+// `step 1: VALUES over ENTITIES`, below an empty line.
+fn push_step(
+    alloc: Global,
+    number: usize,
+    step: &Step<'_>,
+    output: &mut String,
+) -> Result<(), AllocError> {
+    output.push_str(format!(in alloc; "\nstep {number}: ")?.as_str())?;
+    push_visible(alloc, step.values.name, output)?;
+    if let Some(entities) = step.entities {
+        output.push_str(" over ")?;
+        push_visible(alloc, entities.name, output)?;
+    }
+    output.push_str("\n")
+}
+
 fn print_response(
     alloc: Global,
     above: &str,
@@ -330,4 +347,119 @@ fn print_response(
     let printed = print_decision(alloc, above, response.decision(), lines.as_str(), warnings);
     drop(lines);
     printed
+}
+
+fn push_response(
+    alloc: Global,
+    response: &PartialResponse,
+    lines: &mut String,
+) -> Result<(), AllocError> {
+    push_bounds(alloc, response, lines)?;
+    push_residuals(alloc, response.nontrivial_residuals(), lines)?;
+    push_unknowns(alloc, response, lines)
+}
+
+// The policies that must and that may determine the decision.
+fn push_bounds(
+    alloc: Global,
+    response: &PartialResponse,
+    lines: &mut String,
+) -> Result<(), AllocError> {
+    lines.push_str("\nmust be determining: ")?;
+    push_names(alloc, response.must_be_determining(), lines)?;
+    lines.push_str("\nmay be determining: ")?;
+    push_names(alloc, response.may_be_determining(), lines)?;
+    lines.push_str("\n")
+}
+
+// The names of the policies, with commas between them; `none` of no policies.
+fn push_names(
+    alloc: Global,
+    policies: ReportedPolicies<'_>,
+    output: &mut String,
+) -> Result<(), AllocError> {
+    let mut names = String::new(alloc);
+    for policy in policies {
+        push_one(alloc, &mut names, &policy?)?;
+    }
+    if names.is_empty() {
+        names.push_str("none")?;
+    }
+    output.push_str(names.as_str())
+}
+
+fn push_one(alloc: Global, names: &mut String, policy: &Policy) -> Result<(), AllocError> {
+    if !names.is_empty() {
+        names.push_str(", ")?;
+    }
+    push_visible_name(alloc, policy, names)
+}
+
+// What is left of each policy, as Cedar's text behind its name.
+fn push_residuals(
+    alloc: Global,
+    policies: ReportedPolicies<'_>,
+    output: &mut String,
+) -> Result<(), AllocError> {
+    for policy in policies {
+        push_residual(alloc, &policy?, output)?;
+    }
+    Ok(())
+}
+
+fn push_residual(alloc: Global, policy: &Policy, output: &mut String) -> Result<(), AllocError> {
+    output.push_str("\nleft of ")?;
+    push_visible_name(alloc, policy, output)?;
+    output.push_str(":\n")?;
+    let text = policy_to_cedar(alloc, policy)?;
+    output.push_str(text.as_str())?;
+    output.push_str("\n")
+}
+
+// The names of the unknowns that are left, and the entities that a store lacked, a line each if there are any.
+fn push_unknowns(
+    alloc: Global,
+    response: &PartialResponse,
+    output: &mut String,
+) -> Result<(), AllocError> {
+    let names = unknown_names(alloc, response)?;
+    let pushed = push_unknown_names(alloc, &names, output);
+    drop(names);
+    pushed?;
+    let entities = entities_left(alloc, response)?;
+    let pushed = push_entities(alloc, &entities, output);
+    drop(entities);
+    pushed
+}
+
+fn push_unknown_names(
+    alloc: Global,
+    names: &[RcStr],
+    output: &mut String,
+) -> Result<(), AllocError> {
+    if names.is_empty() {
+        return Ok(());
+    }
+    output.push_str("\nunknown:")?;
+    'names: for name in names {
+        output.push_str(" ")?;
+        push_visible(alloc, name.as_str(), output)?;
+    }
+    output.push_str("\n")
+}
+
+fn push_entities(
+    alloc: Global,
+    entities: &[EntityUID],
+    output: &mut String,
+) -> Result<(), AllocError> {
+    if entities.is_empty() {
+        return Ok(());
+    }
+    output.push_str("\nmissing entities:")?;
+    'entities: for entity in entities {
+        output.push_str(" ")?;
+        push_visible(alloc, format!(in alloc; "{entity}")?.as_str(), output)?;
+    }
+    output.push_str("\n")
 }

@@ -1,10 +1,7 @@
-//! Where places of a text are, and what is printed of them.
-ghost use Rattle.std.specs.Prelude.{◌≡◌, ◌+◌, ◌++◌, ◌^◌, ◌<◌, ◌≤◌, All, IfOk, OnOk, List, ℕ, min, not, length};
-ghost use Rattle.std.specs.Prelude.{string_bytes};
+//! Where places of a text are, and what is told of them.
+ghost use Rattle.std.specs.Prelude.{◌≡◌, ◌+◌, ◌^◌, ◌<◌, ◌≤◌, All, IfOk, List, ℕ, min, not, length};
 ghost use Rattle.cedar_text_lexer.specs.Positions as positions;
 ghost use Rattle.cedar_cli.specs.Noted.{IsOf, place_at};
-ghost use Rattle.cedar_cli.specs.Strict.{noted_text};
-ghost use Rattle.cedar_cli.specs.Warned.{IsAbout, IsDescribed};
 
 use crate::asked::Source;
 use crate::visible::{push_visible, push_visible_character, visible};
@@ -15,7 +12,7 @@ use std::alloc::{AllocError, Global};
 /// Of so many bytes of a text one has its position noted.
 const EVERY: usize = 256;
 
-/// So many characters of a line are printed before a place, and from its start on.
+/// So many characters of a line are told before a place, and from its start on.
 const SIDE: usize = 120;
 
 /// A text in which places are looked up: where each of its bytes stands whose number is a multiple of `EVERY` is noted.
@@ -91,7 +88,7 @@ impl<'a> Places<'a> {
         }
     }
 
-    // What is printed of the line on which the place stands that begins at this position and ends before this byte.
+    // What is told of the line on which the place stands that begins at this position and ends before this byte.
     fn window_of(&self, position: Position, end: usize) -> Window<'a> {
         let line = self
             .source
@@ -174,7 +171,7 @@ struct Window<'a> {
     is_cut_behind: bool,
 }
 
-// The last characters of the text, as many as are printed.
+// The last characters of the text, as many as are told.
 fn last_of_line(text: &str) -> &str {
     let bytes = text.as_bytes();
     let mut told: usize = 0;
@@ -190,7 +187,7 @@ fn last_of_line(text: &str) -> &str {
     text
 }
 
-// The first characters of the text up to the end of a line, as many as are printed.
+// The first characters of the text up to the end of a line, as many as are told.
 fn first_of_line(text: &str) -> &str {
     let bytes = text.as_bytes();
     let mut told: usize = 0;
@@ -220,81 +217,47 @@ pub(crate) fn describe_at(
     places: &Places<'_>,
     loc: Option<Loc>,
     why: &str,
-) -> Result<String, AllocError>
-    ensures { IfOk result (λ s. IsDescribed places.now.source loc why.now (string_bytes s)) }
-{
+) -> Result<String, AllocError> {
     let mut told = visible(alloc, places.name())?;
-    push_noted(alloc, places, loc, &mut told)?;
-    told.push_str(": ")?;
-    push_visible(alloc, why, &mut told)?;
-    push_about(alloc, places, loc, &mut told)?;
+    match loc {
+        Some(loc) => {
+            let position = places.position_of(loc.start);
+            let (line, column) = (position.line, position.column);
+            told.push_str(format!(in alloc; ": line {line}, column {column}: ")?.as_str())?;
+            push_visible(alloc, why, &mut told)?;
+            push_window(alloc, places.window_of(position, loc.end), &mut told)?;
+        }
+        None => {
+            told.push_str(": ")?;
+            push_visible(alloc, why, &mut told)?;
+        }
+    }
     told.push_str("\n")?;
     Ok(told)
 }
 
-/// `: line L, column C`, if the place is known.
-pub(crate) fn push_noted(
-    alloc: Global,
-    places: &Places<'_>,
-    place: Option<Loc>,
-    line: &mut String,
-) -> Result<(), AllocError>
-    ensures { OnOk result (string_bytes line.new
-        ≡ string_bytes line.old ++ noted_text places.now.source.text.now place) }
-{
-    match place {
-        Some(loc) => {
-            let (number, column) = places.place_of(loc);
-            line.push_str(format!(in alloc; ": line {number}, column {column}")?.as_str())
-        }
-        None => Ok(()),
-    }
-}
-
-// What stands about the place, below the line before.
-fn push_about(
-    alloc: Global,
-    places: &Places<'_>,
-    loc: Option<Loc>,
-    told: &mut String,
-) -> Result<(), AllocError>
-    ensures { OnOk result ((about : _) × IsAbout loc about
-        × (string_bytes told.new ≡ string_bytes told.old ++ about)) }
-{
-    match loc {
-        Some(loc) => {
-            let about = about(alloc, places, loc)?;
-            told.push_str(about.as_str())?;
-            Ok(())
-        }
-        None => Ok(()),
-    }
-}
-
 // The line about a place, and below it the place marked: by one `^` where no character is in it.
-fn about(alloc: Global, places: &Places<'_>, loc: Loc) -> Result<String, AllocError> {
-    let window = places.window_of(places.position_of(loc.start), loc.end);
-    let mut told = String::from_str(alloc, "\n")?;
+fn push_window(alloc: Global, window: Window<'_>, told: &mut String) -> Result<(), AllocError> {
     let mut marks = String::new(alloc);
+    told.push_str("\n")?;
     if window.is_cut_before {
         told.push_str("..")?;
         marks.push_str("  ")?;
     }
-    push_marked(alloc, window.before, ' ', &mut told, &mut marks)?;
-    push_marked(alloc, window.place, '^', &mut told, &mut marks)?;
+    push_marked(alloc, window.before, ' ', told, &mut marks)?;
+    push_marked(alloc, window.place, '^', told, &mut marks)?;
     if window.place.is_empty() {
         marks.push_str("^")?;
     }
-    push_line(alloc, window.behind, &mut told)?;
+    push_line(alloc, window.behind, told)?;
     if window.is_cut_behind {
         told.push_str("..")?;
     }
     told.push_str("\n")?;
-    told.push_str(marks.as_str())?;
-    Ok(told)
+    told.push_str(marks.as_str())
 }
 
-// The text as it is printed, and the mark for each of its characters then: a tab stands as it is.
+// The text as it is told, and the mark for each of its characters then: a tab stands as it is.
 fn push_marked(
     alloc: Global,
     text: &str,
@@ -310,7 +273,7 @@ fn push_marked(
     told.push_str(shown.as_str())
 }
 
-// The text as it is printed: a tab stands as it is.
+// The text as it is told: a tab stands as it is.
 fn push_line(alloc: Global, text: &str, told: &mut String) -> Result<(), AllocError> {
     for character in text.chars() {
         if character == '\t' {

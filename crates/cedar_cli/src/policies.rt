@@ -1,10 +1,7 @@
 //! Policies of a text.
-ghost use Rattle.std.specs.Prelude.{◌≡◌, ◌++◌, [], ◌∷◌, map, true, IfOk, OnOk, IfErr, string_bytes, option_copied, option_map};
-ghost use Rattle.cedar_extensions.specs.Extension.{functions_of};
-ghost use Rattle.cedar_model.specs.Outcomes.{text_eq};
+ghost use Rattle.std.specs.Prelude.{◌≡◌, ◌++◌, IfOk, OnOk, IfErr, string_bytes, option_copied};
 ghost use Rattle.cedar_layers.specs.Policies.{policy_view, policy_id_text};
-ghost use Rattle.cedar_layers.specs.PolicySets.{policies_view};
-ghost use Rattle.cedar_functions.specs.Functions.{knowledge, these, signatures_of, signature_of};
+ghost use Rattle.cedar_functions.specs.Functions.{knowledge, these, signatures_of};
 ghost use Rattle.cedar_text_formatter.specs.Formatted.{IsFormatted};
 ghost use Rattle.cedar_text_parser.specs.PolicyHeights.{with_scope, AreAllNoHigher};
 ghost use Rattle.cedar_text_parser.specs.PolicyReading.{AreAllRead};
@@ -12,8 +9,7 @@ ghost use Rattle.cedar_cli.specs.Named.{annotated, policy_name};
 ghost use Rattle.cedar_cli.specs.Questions.{levels, ArePoliciesOf, ArePoliciesFor};
 ghost use Rattle.cedar_cli.specs.Reasons.{IsToldFor, IsOfPolicies, ArePoliciesUnread, AreUnread, AreUnreadFor};
 ghost use Rattle.cedar_cli.specs.Reasons.{HasNoLayout, IsNotLaidOut};
-ghost use Rattle.cedar_cli.specs.Warned.{name_of_id, name_or};
-ghost use Rattle.cedar_cli.specs.Standard.{standard_knowledge, knowledge_with_unknown, unknown_signature};
+ghost use Rattle.cedar_cli.specs.Standard.{standard_knowledge};
 
 use crate::asked::Source;
 use crate::limits::LEVELS;
@@ -46,8 +42,8 @@ pub(crate) fn read(
     }
 }
 
-/// The policies that the text writes, which call functions of these extensions alone. Refused where it can't be read:
-/// the first errors are reported, each with its place, and how many more there are.
+/// The policies that the text writes, which call functions of these extensions alone. Refused where it can't be read: the
+/// first errors are told, each with its place, and how many more there are.
 pub fn read_over(
     alloc: Global,
     source: Source<'_>,
@@ -68,7 +64,7 @@ pub fn read_over(
     }
 }
 
-// The refusal that reports these errors.
+// The refusal that tells these errors.
 #[cold]
 fn refusal(alloc: Global, source: Source<'_>, errors: &FirstRest<ParseError>) -> Refusal
     ensures { IsToldFor (IsOfPolicies errors.now.first) result }
@@ -120,7 +116,7 @@ fn push_lines(
     lines.push_str(&more)
 }
 
-// Of more errors than are reported one by one, how many there are besides.
+// Of more errors than are told one by one, how many there are besides.
 fn push_others(
     alloc: Global,
     source: Source<'_>,
@@ -144,30 +140,20 @@ pub(crate) fn read_with_unknown(
     ensures read { IfOk result (ArePoliciesOf source.entry.text.now) }
     ensures refused { IfErr result (IsToldFor (AreUnread source.entry.text.now)) }
 {
-    let extension = unknown_extension(alloc)?;
-    let all = vec![in alloc; extension]?;
+    let name = Name::new(RcStr::from_str(alloc, "partial_evaluation")?, None);
+    let functions = vec![in alloc; ExtensionFunction::unknown(alloc)?]?;
+    let all = vec![in alloc; Extension::new(name, functions, Vec::new(alloc))]?;
     match Extensions::with_standard(alloc, all.as_slice()) {
-        Ok(extensions) => read_over_unknown(alloc, source, &extensions),
+        Ok(extensions) => read_known(alloc, source, &extensions),
         Err(_) => Err(Refusal::Memory),
     }
 }
 
-// The extension that has `unknown` and no other function.
-fn unknown_extension(alloc: Global) -> Result<Extension, AllocError>
-    ensures { IfOk result (λ e. map signature_of (functions_of e) ≡ unknown_signature ∷ []) }
-{
-    let name = Name::new(RcStr::from_str(alloc, "partial_evaluation")?, None);
-    let function = ExtensionFunction::unknown(alloc)?;
-    let functions = vec![in alloc; function]?;
-    Ok(Extension::new(name, functions, Vec::new(alloc)))
-}
-
-fn read_over_unknown(
+fn read_known(
     alloc: Global,
     source: Source<'_>,
     extensions: &Extensions<'_>,
 ) -> Result<ParsedPolicies, Refusal>
-    requires { these (signatures_of extensions.now) ≡ knowledge_with_unknown }
     ensures read { IfOk result (ArePoliciesOf source.entry.text.now) }
     ensures refused { IfErr result (IsToldFor (AreUnread source.entry.text.now)) }
 {
@@ -200,7 +186,7 @@ fn read_standard(alloc: Global, source: Source<'_>) -> Result<ParsedPolicies, Re
 }
 
 /// Whether the policies can be read, in which the standard functions may be called and, where they may have unknowns,
-/// `unknown`: if not, the first errors are reported, each with its place, and how many more there are.
+/// `unknown`: if not, the first errors are told, each with its place, and how many more there are.
 pub fn check_policies(alloc: Global, source: Source<'_>, has_unknowns: bool) -> Result<(), Refusal>
     ensures passed { OnOk result ((parsed : _) × ArePoliciesFor has_unknowns source.entry.text.now parsed) }
     ensures refused { IfErr result (IsToldFor (AreUnreadFor has_unknowns source.entry.text.now)) }
@@ -211,11 +197,9 @@ pub fn check_policies(alloc: Global, source: Source<'_>, has_unknowns: bool) -> 
 }
 
 /// The text of the policies in one layout, with its comments: its tokens and comments stay what they are, in their
-/// order. Refused where the policies can't be read, in which the standard functions and `unknown` may be called, and no
-/// others.
+/// order. Refused where the policies can't be read, in which the standard functions and `unknown` may be called.
 pub fn format_policies(alloc: Global, source: Source<'_>) -> Result<String, Refusal>
     ensures formatted { IfOk result (λ formatted. IsFormatted source.entry.text.now (string_bytes formatted)) }
-    ensures read { OnOk result ((parsed : _) × ArePoliciesFor true source.entry.text.now parsed) }
     ensures refused { IfErr result (IsToldFor (HasNoLayout source.entry.text.now)) }
 {
     check_policies(alloc, source, true)?;
@@ -229,7 +213,6 @@ pub fn format_policies(alloc: Global, source: Source<'_>) -> Result<String, Refu
 /// Whether the text of the policies is in that layout already: if not, or if they can't be read, it is refused.
 pub fn check_format(alloc: Global, source: Source<'_>) -> Result<(), Refusal>
     ensures passed { OnOk result (IsFormatted source.entry.text.now source.entry.text.now) }
-    ensures read { OnOk result ((parsed : _) × ArePoliciesFor true source.entry.text.now parsed) }
     ensures refused { IfErr result (IsToldFor (IsNotLaidOut source.entry.text.now)) }
 {
     check_policies(alloc, source, true)?;
@@ -254,48 +237,17 @@ fn is_unreadable(alloc: Global, source: Source<'_>) -> Refusal {
     refuse_with_line(alloc, format!(in alloc; "{name}: a token can't be read"))
 }
 
-/// Puts the name of the policy of this id after the text; of an id that no policy has, the id.
-pub(crate) fn push_name_under(
-    alloc: Global,
-    policies: &PolicySet,
-    id: &PolicyID,
-    out: &mut String,
-) -> Result<(), AllocError>
-    ensures { OnOk result (string_bytes out.new
-        ≡ string_bytes out.old ++ name_of_id (policy_id_text id.now) (policies_view policies.now)) }
-{
-    match with_id(policies, id) {
-        Some(policy) => {
-            push_name(alloc, policy, out)?;
-            Ok(())
-        }
-        None => {
-            push_id(alloc, id, out)?;
-            Ok(())
-        }
-    }
-}
-
-fn is_of(policy: &Policy, id: &PolicyID) -> bool
-    ensures { result ≡ text_eq (policy_view policy.now).id (policy_id_text id.now) }
-{
-    policy.id() == id
-}
-
 /// The policy of this id, if there is one.
-pub fn with_id<'a>(policies: &'a PolicySet, id: &PolicyID) -> Option<&'a Policy>
-    ensures { name_of_id (policy_id_text id.now) (policies_view policies.now)
-        ≡ name_or (policy_id_text id.now) (option_map policy_view (option_copied result)) }
-{
-    'policies: for policy in policies.policies() {
-        if is_of(policy, id) {
+pub fn with_id<'a>(policies: &'a PolicySet, id: &PolicyID) -> Option<&'a Policy> {
+    for policy in policies.policies() {
+        if policy.id() == id {
             return Some(policy);
         }
     }
     None
 }
 
-/// Puts how the policy is called after the text: by its annotation `id` or, where it has none, by its id.
+/// Writes how the policy is called behind the text: by its annotation `id` or, where it has none, by its id.
 pub fn push_name(alloc: Global, policy: &Policy, out: &mut String) -> Result<(), AllocError>
     ensures { OnOk result
         (string_bytes out.new ≡ string_bytes out.old ++ policy_name (policy_view policy.now)) }
@@ -316,7 +268,7 @@ pub(crate) fn annotated_id(policy: &Policy) -> Option<&str>
     }
 }
 
-fn push_id(alloc: Global, id: &PolicyID, out: &mut String) -> Result<(), AllocError>
+pub(crate) fn push_id(alloc: Global, id: &PolicyID, out: &mut String) -> Result<(), AllocError>
     ensures { OnOk result (string_bytes out.new ≡ string_bytes out.old ++ policy_id_text id.now) }
 {
     out.push_str(id.to_string(alloc)?.as_str())

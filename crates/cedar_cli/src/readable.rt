@@ -41,7 +41,7 @@ fn readable_line_of(alloc: Global, source: Source<'_>, expr: &Expr) -> Result<St
         return Err(has_reserved_key(alloc, source, key));
     }
     let line = json_line(alloc, expr)?;
-    if syntax_fault(alloc, line.as_str(), MAX_DEPTH)?.start < line.len() {
+    if syntax_fault(alloc, line.as_str())?.start < line.len() {
         return Err(is_too_deep(alloc, source));
     }
     Ok(line)

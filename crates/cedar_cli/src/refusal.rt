@@ -1,6 +1,5 @@
 //! Why a question is not answered.
-ghost use Rattle.std.specs.Prelude.{◌≡◌, IfSome, IfOk, OnOk, string_bytes};
-ghost use Rattle.cedar_cli.specs.Noted.{place_at, line_at};
+ghost use Rattle.std.specs.Prelude.{◌≡◌, IfSome, OnOk};
 ghost use Rattle.cedar_cli.specs.declared.refusal.Refusal.TheVariants as refusals;
 ghost use Rattle.cedar_cli.specs.Reasons.{IsToldFor, IsOfText, IsOfPolicies, IsOfJson};
 
@@ -139,7 +138,7 @@ pub fn unread_json(alloc: Global, source: Source<'_>, error: JsonError) -> Refus
     let name = source.name;
     match error {
         JsonError::Memory(_) => Refusal::Memory,
-        JsonError::Syntax => no_json(alloc, source, MAX_DEPTH),
+        JsonError::Syntax => no_json(alloc, source),
         JsonError::DuplicateKey => twice(alloc, source),
         JsonError::Refused { path, reason } => {
             refuse_with_line(alloc, format!(in alloc; "{name}: {path}: {reason}"))
@@ -150,25 +149,20 @@ pub fn unread_json(alloc: Global, source: Source<'_>, error: JsonError) -> Refus
     }
 }
 
-/// The refusal of a text that is no JSON, or in which more than so many arrays and objects stand one in another:
-/// `NAME: line L, column C: why`.
-#[cold]
-pub fn no_json(alloc: Global, source: Source<'_>, most: usize) -> Refusal {
-    match syntax_fault(alloc, source.text, most) {
-        Ok(fault) => refuse_with_line(alloc, no_json_line(alloc, source, fault, most)),
+// The refusal of a text that is no JSON, or that nests deeper than is read.
+fn no_json(alloc: Global, source: Source<'_>) -> Refusal {
+    match syntax_fault(alloc, source.text) {
+        Ok(fault) => refuse_with_line(alloc, no_json_line(alloc, source, fault)),
         Err(AllocError) => Refusal::Memory,
     }
 }
 
-fn no_json_line(
-    alloc: Global,
-    source: Source<'_>,
-    fault: Fault,
-    most: usize,
-) -> Result<String, AllocError> {
+fn no_json_line(alloc: Global, source: Source<'_>, fault: Fault) -> Result<String, AllocError> {
     let why = match fault.wrong {
         Wrong::TooDeep => {
-            let why = format!(in alloc; "more than {most} arrays and objects, one in another")?;
+            let why = format!(in alloc;
+                "more than {MAX_DEPTH} arrays and objects, one in another"
+            )?;
             return faulty_line(alloc, source, fault.start, why.as_str());
         }
         Wrong::Ends => "not JSON: more is due where the text ends",
@@ -208,16 +202,12 @@ fn twice_somewhere(alloc: Global, source: Source<'_>) -> Result<String, AllocErr
     format!(in alloc; "{name}: a key comes twice in an object")
 }
 
-// What is wrong at this byte, with its line and column.
 fn faulty_line(
     alloc: Global,
     source: Source<'_>,
     start: usize,
     why: &str,
-) -> Result<String, AllocError>
-    ensures { IfOk result (λ s. string_bytes s
-        ≡ line_at source.entry.name.now (place_at source.entry.text.now start) why.now) }
-{
+) -> Result<String, AllocError> {
     let name = source.name;
     let places = Places::of(alloc, source)?;
     let (line, column) = places.place_of(Loc { start, end: start });

@@ -1,15 +1,10 @@
 //! Stores of entities.
-ghost use Rattle.std.specs.Prelude.{◌≡◌, false, map, IfOk, OnOk, IfErr, Some, string_bytes};
-ghost use Rattle.cedar_model.specs.Settings.{printed_entity};
-ghost use Rattle.cedar_names.specs.Names.{uid_name};
+ghost use Rattle.std.specs.Prelude.{◌≡◌, false, IfOk, IfErr};
 ghost use Rattle.cedar_model.specs.Agreement.{IsValue, EachStored};
 ghost use Rattle.cedar_layers.specs.Stores.{no_entities, store_view};
 ghost use Rattle.cedar_extensions.specs.Extensions.{extensions_view, calls_of};
 ghost use Rattle.cedar_cli.specs.Questions.{IsGivenStore, IsStoreSaid, IsClosedAs, IsClosedStore, IsPartialStore};
 ghost use Rattle.cedar_cli.specs.Reasons.{IsToldFor, IsStoreUnread, AreEntitiesUnread, IsCyclic, NamesOne};
-ghost use Rattle.cedar_cli.specs.Evaluated.{IsOfHeight};
-ghost use Rattle.cedar_cli.specs.Warned.{AddsNotices, left_out_notices, AreLeftOutReported, ReportsLeftOut};
-ghost use Rattle.cedar_cli.specs.Warned.{IsSaidReported, IsStoreReported};
 ghost use Rattle.cedar_cli.specs.Questions.{IsKnownStore};
 ghost use Rattle.cedar_cli.specs.Reasons.{AreNotClosed, CanHaveMore, IsKnownStoreUnread, AreKnownEntitiesUnread};
 
@@ -42,9 +37,9 @@ pub struct Store {
     pub height: usize,
 }
 
-/// The store of the entities that are given, each with all its ancestors; where none are given, that without any.
-/// Refused where the entities can't be read, where parents lead back to an entity, and where they have more ancestors
-/// in all than they may. Those that are left out of entities of which there may be more are reported as warnings.
+/// The store of the entities that are given, each with all its ancestors; where none are given, that without any. Refused
+/// where the entities can't be read, where parents lead back to an entity, and where they have more ancestors in all than
+/// they may. Those that are left out of entities of which there may be more are told as warnings.
 pub fn given_store(
     alloc: Global,
     asked: &Asked<'_, '_>,
@@ -53,8 +48,6 @@ pub fn given_store(
 ) -> Result<Store, Refusal>
     ensures given { IfOk result (λ s.
         IsGivenStore (extensions_view extensions.now) (calls_of extensions.now) asked.now s.entities) }
-    ensures reported { OnOk result (IsStoreReported (extensions_view extensions.now) (calls_of extensions.now)
-        asked.now.entities asked.now.is_partial (string_bytes warnings.old) (string_bytes warnings.new)) }
     ensures refused { IfErr result (IsToldFor
         (IsStoreUnread (extensions_view extensions.now) (calls_of extensions.now) asked.now.entities
         asked.now.max_ancestors)) }
@@ -79,11 +72,10 @@ pub fn known_store(
     alloc: Global,
     asked: &Asked<'_, '_>,
     extensions: &Extensions<'_>,
+    warnings: &mut String,
 ) -> Result<Store, Refusal>
     ensures given { IfOk result (λ s.
         IsKnownStore (extensions_view extensions.now) (calls_of extensions.now) asked.now s.entities) }
-    ensures height { IfOk result
-        (IsOfHeight (extensions_view extensions.now) (calls_of extensions.now) asked.now.entities) }
     ensures refused { IfErr result (IsToldFor
         (IsKnownStoreUnread (extensions_view extensions.now) (calls_of extensions.now) asked.now.entities
         asked.now.max_ancestors)) }
@@ -95,7 +87,7 @@ pub fn known_store(
                 is_partial: false,
                 max_ancestors: asked.max_ancestors,
             };
-            known_store_of(alloc, given, extensions)
+            known_store_of(alloc, given, extensions, warnings)
         }
         None => no_entities(alloc, false),
     }
@@ -104,7 +96,6 @@ pub fn known_store(
 fn no_entities(alloc: Global, is_partial: bool) -> Result<Store, Refusal>
     ensures given { IfOk result (λ s. store_view s.entities
         ≡ record { entity = no_entities; is_partial = is_partial }) }
-    ensures height { IfOk result (λ s. s.height ≡ 0) }
     ensures refused { IfErr result (IsToldFor ⊥) }
 {
     match Entities::with(alloc, Vec::new(alloc), is_partial) {
@@ -117,8 +108,8 @@ fn no_entities(alloc: Global, is_partial: bool) -> Result<Store, Refusal>
 }
 
 /// The store of the entities that this text writes, each with all its ancestors. Where there may be more entities,
-/// those are left out whose parents lead to one that is not there, and that is reported. Refused before they are
-/// closed, where they have more ancestors in all than they may.
+/// those are left out whose parents lead to one that is not there, and that is told. Refused before they are closed,
+/// where they have more ancestors in all than they may.
 pub(crate) fn store_of(
     alloc: Global,
     given: Given<'_>,
@@ -127,8 +118,6 @@ pub(crate) fn store_of(
 ) -> Result<Store, Refusal>
     ensures said { IfOk result (λ s. IsStoreSaid (extensions_view extensions.now) (calls_of extensions.now)
         given.entry.source.text.now given.entry.is_partial s.entities) }
-    ensures reported { OnOk result (IsSaidReported (extensions_view extensions.now) (calls_of extensions.now)
-        given.entry.source given.entry.is_partial (string_bytes warnings.old) (string_bytes warnings.new)) }
     ensures refused { IfErr result (IsToldFor
         (AreEntitiesUnread (extensions_view extensions.now) (calls_of extensions.now) given.entry.source.text.now
         given.entry.max_ancestors)) }
@@ -151,12 +140,12 @@ fn known_store_of(
     alloc: Global,
     given: Given<'_>,
     extensions: &Extensions<'_>,
+    warnings: &mut String,
 ) -> Result<Store, Refusal>
+    requires { given.is_partial ≡ false }
     ensures said { IfOk result (λ s. IsStoreSaid (extensions_view extensions.now) (calls_of extensions.now)
         given.entry.source.text.now false s.entities) }
     ensures known { IfOk result (λ s. EachStored IsValue (store_view s.entities)) }
-    ensures height { IfOk result
-        (IsOfHeight (extensions_view extensions.now) (calls_of extensions.now) (Some given.entry.source)) }
     ensures refused { IfErr result (IsToldFor
         (AreKnownEntitiesUnread (extensions_view extensions.now) (calls_of extensions.now)
         given.entry.source.text.now given.entry.max_ancestors)) }
@@ -165,30 +154,12 @@ fn known_store_of(
     match known_entities_from_json_str(alloc, source.text, extensions, LEVELS) {
         Ok(entities) => {
             let height = entities_height(&entities);
-            match whole_closed_store(alloc, given, entities) {
+            match closed_store(alloc, given, entities, warnings) {
                 Ok(entities) => Ok(Store { entities, height }),
                 Err(refusal) => Err(refusal),
             }
         }
         Err(error) => Err(unread_json(alloc, source, error)),
-    }
-}
-
-// The store of these entities and of no others, each with all its ancestors.
-fn whole_closed_store(
-    alloc: Global,
-    given: Given<'_>,
-    entities: Vec<Entity>,
-) -> Result<Entities, Refusal>
-    ensures closed { IfOk result (IsClosedStore entities.items) }
-    ensures refused { IfErr result (IsToldFor (AreNotClosed entities.items given.entry.max_ancestors)) }
-{
-    match refuse_many_ancestors(alloc, given, &entities) {
-        Ok(()) => whole_store(alloc, given.source, entities),
-        Err(refusal) => {
-            drop(entities);
-            Err(refusal)
-        }
     }
 }
 
@@ -200,8 +171,6 @@ fn closed_store(
     warnings: &mut String,
 ) -> Result<Entities, Refusal>
     ensures closed { IfOk result (IsClosedAs given.entry.is_partial entities.items) }
-    ensures reported { OnOk result (ReportsLeftOut given.entry.is_partial entities.items given.entry.source
-        (string_bytes warnings.old) (string_bytes warnings.new)) }
     ensures refused { IfErr result (IsToldFor (AreNotClosed entities.items given.entry.max_ancestors)) }
 {
     match refuse_many_ancestors(alloc, given, &entities) {
@@ -220,8 +189,6 @@ fn close_as(
     warnings: &mut String,
 ) -> Result<Entities, Refusal>
     ensures closed { IfOk result (IsClosedAs given.entry.is_partial entities.items) }
-    ensures reported { OnOk result (ReportsLeftOut given.entry.is_partial entities.items given.entry.source
-        (string_bytes warnings.old) (string_bytes warnings.new)) }
     ensures cycle { IfErr result (IsToldFor (IsCyclic entities.items)) }
 {
     if given.is_partial {
@@ -278,8 +245,6 @@ fn partial_store(
     warnings: &mut String,
 ) -> Result<Entities, Refusal>
     ensures closed { IfOk result (IsPartialStore entities.items) }
-    ensures reported { OnOk result (AreLeftOutReported entities.items source.entry (string_bytes warnings.old)
-        (string_bytes warnings.new)) }
     ensures cycle { IfErr result (IsToldFor (IsCyclic entities.items)) }
 {
     match close_hierarchy_partially(alloc, entities) {
@@ -295,9 +260,6 @@ fn tell_left_out(
     warnings: &mut String,
 ) -> Result<Entities, Refusal>
     ensures same { IfOk result (λ s. s ≡ closure.entities) }
-    ensures added { OnOk result (AddsNotices
-        (left_out_notices source.entry (map printed_entity (map uid_name closure.left_out.keys)))
-        (string_bytes warnings.old) (string_bytes warnings.new)) }
     ensures memory { IfErr result (IsToldFor ⊥) }
 {
     let PartialClosure { entities, left_out } = closure;

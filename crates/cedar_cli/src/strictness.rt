@@ -1,27 +1,20 @@
-//! What is reported of policies that can be read, but can't be meant.
+//! What is told of policies that can be read, but can't be meant.
 ghost use Rattle.std.specs.Prelude.{◌≡◌, ◌++◌, true, [], IfOk, OnOk, IfErr, string_bytes, option_map, is_some};
 ghost use Rattle.cedar_layers.specs.PolicySets.{stored_policies};
 ghost use Rattle.cedar_cli.specs.Reasons.{IsToldFor, AreUnreadFor};
-ghost use Rattle.cedar_cli.specs.Linted.{AreAllToldOver, IsStrictOver, IsStrictOverStore, IsStrictUnread};
 ghost use Rattle.cedar_cli.specs.Strict as specs;
 ghost use Rattle.cedar_cli.specs.Strict.{finding_view, words_found, IsMeant, IsLineIf, IsLineWhen, IsFoundLine, Adds};
 ghost use Rattle.cedar_cli.specs.Strict.{AreFindingLines, AreFindings, AreAllTold, IsStrict};
 
-use crate::asked::{Asked, Source};
+use crate::asked::Source;
 use crate::decisions::Printed;
-use crate::lints::{push_absent, push_lookalikes};
-use crate::places::{Places, push_noted};
+use crate::places::Places;
 use crate::policies::{push_name, read_for};
 use crate::refusal::Refusal;
 use crate::repeated::push_alike;
-use crate::stores::known_store;
 use crate::warnings::push_warning;
-use cedar_lints::{Extent, Known};
 use cedar_policy_core::ast::{Policy, PolicySet};
-use cedar_policy_core::entities::Entities;
-use cedar_policy_core::extensions::Extensions;
-use cedar_policy_core::extensions::laws::functions_are_computed;
-use cedar_policy_core::parser::ParsedPolicies;
+use cedar_policy_core::parser::{Loc, ParsedPolicies};
 use cedar_unsatisfiable::{always_errs, is_unsatisfiable, late_test};
 use std::alloc::{AllocError, Global};
 
@@ -36,10 +29,9 @@ pub(crate) enum Finding {
     Late,
 }
 
-/// Whether the policies can be read, as `check_policies` has it; beside that each policy and template is reported of
-/// which the text shows that it applies in no world, that it errs wherever its scope holds, that it tests an attribute
-/// after it read it, or that one before says the same. The status is 1 if one is reported and `is_denied` is set, and
-/// else 0.
+/// Whether the policies can be read, as `check_policies` has it; beside that each policy and template is told of which
+/// the text shows that it applies in no world, that it errs wherever its scope holds, that it tests an attribute after
+/// it read it, or that one before says the same. The status is 1 if one is told and `is_denied` is set, and else 0.
 pub fn check_strictly(
     alloc: Global,
     source: Source<'_>,
@@ -59,91 +51,6 @@ pub fn check_strictly(
         warnings,
         status,
     })
-}
-
-/// The same over the entities that are given, of which none may be unknown. Reported are also the records in them that
-/// look like an entity, and what the policies and templates name and the entities don't have: entities, types and
-/// action groups.
-pub fn check_strictly_over(
-    alloc: Global,
-    source: Source<'_>,
-    asked: &Asked<'_, '_>,
-    has_unknowns: bool,
-    is_denied: bool,
-) -> Result<Printed, Refusal>
-    ensures checked { IfOk result (IsStrictOver source.entry asked.now has_unknowns is_denied) }
-    ensures refused { IfErr result (IsToldFor (IsStrictUnread source.entry asked.now has_unknowns)) }
-{
-    functions_are_computed();
-    let extensions = Extensions::all_available();
-    let store = known_store(alloc, asked, &extensions)?;
-    let printed = check_over_store(
-        alloc,
-        source,
-        asked,
-        &store.entities,
-        has_unknowns,
-        is_denied,
-    );
-    drop(store);
-    printed
-}
-
-fn check_over_store(
-    alloc: Global,
-    source: Source<'_>,
-    asked: &Asked<'_, '_>,
-    entities: &Entities,
-    has_unknowns: bool,
-    is_denied: bool,
-) -> Result<Printed, Refusal>
-    ensures checked { IfOk result (IsStrictOverStore source.entry asked.now entities.now has_unknowns is_denied) }
-    ensures refused { IfErr result (IsToldFor (AreUnreadFor has_unknowns source.entry.text.now)) }
-{
-    let parsed = read_for(alloc, source, has_unknowns)?;
-    let told = warnings_over(alloc, source, asked, entities, &parsed);
-    drop(parsed);
-    let warnings: String = told?;
-    let status = strict_status(is_denied, warnings.as_str());
-    Ok(Printed {
-        output: String::new(alloc),
-        warnings,
-        status,
-    })
-}
-
-fn warnings_over(
-    alloc: Global,
-    source: Source<'_>,
-    asked: &Asked<'_, '_>,
-    entities: &Entities,
-    parsed: &ParsedPolicies,
-) -> Result<String, AllocError>
-    ensures { IfOk result (λ s. AreAllToldOver source.entry asked.now.entities entities.now parsed.now
-        (string_bytes s)) }
-{
-    let mut warnings = all_warnings(alloc, source, parsed)?;
-    match asked.entities {
-        Some(given) => {
-            push_lookalikes(alloc, given, entities, &mut warnings)?;
-            let places = Places::of(alloc, source)?;
-            let known = Known::of(alloc, entities)?;
-            let pushed = push_absent(
-                alloc,
-                &places,
-                Extent::All,
-                &parsed.policies,
-                &parsed.templates,
-                &known,
-                &mut warnings,
-            );
-            drop(known);
-            drop(places);
-            pushed?;
-        }
-        None => {}
-    }
-    Ok(warnings)
 }
 
 fn strict_status(is_denied: bool, warnings: &str) -> u8
@@ -219,7 +126,7 @@ fn push_of_templates(
     Ok(())
 }
 
-// Reports of the policy if its text shows it.
+// Tells of the policy if its text shows it.
 fn push_if_found(
     alloc: Global,
     places: &Places<'_>,
@@ -236,7 +143,7 @@ fn push_if_found(
     Ok(())
 }
 
-// The words that are reported of the policy, if its text shows it.
+// The words that are told of the policy, if its text shows it.
 fn words_of(alloc: Global, finding: Finding, policy: &Policy) -> Result<Option<String>, AllocError>
     ensures words { IfOk result
         (λ o. option_map string_bytes o ≡ words_found (finding_view finding) policy.now) }
@@ -339,4 +246,23 @@ fn found_line(
     line.push_str("`")?;
     line.push_str(words)?;
     Ok(line)
+}
+
+// `: line L, column C`, if the place is known.
+fn push_noted(
+    alloc: Global,
+    places: &Places<'_>,
+    place: Option<Loc>,
+    line: &mut String,
+) -> Result<(), AllocError>
+    ensures { OnOk result (string_bytes line.new
+        ≡ string_bytes line.old ++ specs.noted_text places.now.source.text.now place) }
+{
+    match place {
+        Some(loc) => {
+            let (number, column) = places.place_of(loc);
+            line.push_str(format!(in alloc; ": line {number}, column {column}")?.as_str())
+        }
+        None => Ok(()),
+    }
 }

@@ -6,7 +6,7 @@ use cedar_policy_core::authorizer::PartialResponse;
 use std::alloc::{AllocError, Global};
 use std::rc::RcStr;
 
-/// Reports why the decision stays open, where it does and nothing of the request is unknown: the entities that are not
+/// Tells why the decision stays open, where it does and nothing of the request is unknown: the entities that are not
 /// there, or the unknowns that stand in the policies or in the entities.
 pub(crate) fn push_why_open(
     alloc: Global,
@@ -23,7 +23,7 @@ pub(crate) fn push_why_open(
     drop(entities);
     pushed?;
     let names = unknown_names(alloc, response)?;
-    let pushed = push_names(alloc, names.as_slice(), &mut line);
+    let pushed = push_names(alloc, &names, &mut line);
     drop(names);
     pushed?;
     push_warning(alloc, line.as_str(), warnings)

@@ -136,9 +136,10 @@ fn explain_over_given_store(
     ensures refused { IfErr result (IsToldFor
         (IsAskedUnread (extensions_view extensions.now) (calls_of extensions.now) asked.now)) }
 {
-    let store = known_store(alloc, asked, extensions)?;
+    let mut told = String::new(alloc);
+    let store = known_store(alloc, asked, extensions, &mut told)?;
     let explanation = explain_over_store(alloc, explaining, &store.entities, asked, extensions);
-    drop(store);
+    drop((store, told));
     explanation
 }
 

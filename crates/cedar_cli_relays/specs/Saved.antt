@@ -1,11 +1,10 @@
 -- What is answered in stages of which each may be on another machine: what is printed, and the line that is handed on.
-use Rattle.std.specs.Prelude.{◌≡◌, ◌++◌, Bool, List, codes, string_bytes}
+use Rattle.std.specs.Prelude.{◌≡◌, ◌++◌, Bool, List, [], codes, string_bytes}
 use Rattle.json.specs.Print.{print}
 use Rattle.json.specs.Tree.{json_tokens}
 use Rattle.json.specs.Json.{Json}
 use Rattle.cedar_model.specs.Terms.{Text}
 use Rattle.cedar_model.specs.World as world
-use Rattle.cedar_model.specs.Chains.{all_residuals}
 use Rattle.cedar_model.specs.Rules.{StoredCalls}
 use Rattle.cedar_model.specs.Settings.{shallow}
 use Rattle.cedar_model.specs.Configurations.{Configuration, configured}
@@ -79,15 +78,15 @@ module _ (X : world.Extensions) (calls : StoredCalls) (names : List Text) where
   abbrev pub SaysResponse : Knowledge → Text → PartialResponse → Type 0
   SaysResponse k text r = SaysSo (depth_for levels) text (λ j. Reads X calls levels (response_said k levels names j) r)
 
-  -- over this store the response is taken further by these steps, in its own way, and the stages are printed, of the
-  -- policies that it reports, with their ids and annotations, and saved
+  -- over this store the response is taken further by these steps, in its own way, and the stages are printed, of no
+  -- policies but those that it has, and saved
   pub record IsTakenOn (text : Text) (first : PartialResponse) (store : Entities) (steps : List Step) (w : Way)
       (s : Saved) : Type 0 where
     pub later : List Taken
     pub taken : AreTakenFrom (configuration_as X calls first w) first store steps later
-    pub policies : PolicySet
-    pub policies_are : considered policies ≡ all_residuals (rows_view first)
-    pub saved : ArePrintedAndSaved names text policies w.is_json first later s
+    pub no_policies : PolicySet
+    pub none_are : policies_view no_policies ≡ []
+    pub saved : ArePrintedAndSaved names text no_policies w.is_json first later s
 
   -- over the closed store that is given
   pub record IsTakenOnOver (text : Text) (first : PartialResponse) (q : Asked) (steps : List Step) (w : Way)

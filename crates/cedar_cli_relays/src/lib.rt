@@ -5,7 +5,7 @@
 //! resume only what someone signed who is trusted.
 //!
 //! - `relays`: the calls, `partially_authorize_and_save` and `resume`. `lines`: the line of a response, and the response of
-//!   a line. `policies`: the policies of a response, with their names.
+//!   a line.
 //!
 //! The promise, from the texts and options on: what is printed is what `partially_authorize` of `cedar_cli` prints, and
 //! the line is that of the last response, whole (`specs/Saved`); a line that is resumed says a response, which each step
@@ -16,7 +16,6 @@
 #![tactic(auto)]
 
 mod lines;
-mod policies;
 mod relays;
 
 pub use relays::{Saved, partially_authorize_and_save, resume};

@@ -7,7 +7,7 @@ ghost use Rattle.cedar_response_json.specs.Extensions.{names_of};
 ghost use Rattle.cedar_cli_relays.specs.Saved.{IsLineOf, SaysResponse};
 ghost use Rattle.cedar_cli_relays.specs.Unresumed.{IsOfLine, IsLineUnread};
 
-use cedar_cli::{Refusal, Source, line_of, no_json, refuse_with_line};
+use cedar_cli::{Refusal, Source, line_of, refuse_with_line};
 use cedar_policy_core::authorizer::PartialResponse;
 use cedar_policy_core::extensions::Extensions;
 use cedar_policy_core::parser::Functions;
@@ -33,8 +33,8 @@ pub(crate) fn line_of_response(
     line
 }
 
-/// The response that the line says. Refused as `whole_response_from_json_str` refuses it: `NAME: $.path: why`, or `NAME:
-/// line L, column C: why` where the text is no JSON or nests too deep.
+/// The response that the line says. Refused as `whole_response_from_json_str` refuses it: `NAME: $.path: why`, or that it is
+/// no JSON or nests too deep.
 pub(crate) fn response_of_line(
     alloc: Global,
     source: Source<'_>,
@@ -81,7 +81,13 @@ fn unread_line(alloc: Global, source: Source<'_>, error: ResponseJsonError) -> R
 {
     match error {
         ResponseJsonError::Memory(_) => Refusal::Memory,
-        ResponseJsonError::Syntax => no_json(alloc, source, json_depth(LEVELS)),
+        ResponseJsonError::Syntax => {
+            let (name, most) = (source.name, json_depth(LEVELS));
+            let line = format!(in alloc;
+                "{name}: not JSON, or more than {most} arrays and objects, one in another"
+            );
+            refuse_with_line(alloc, line)
+        }
         ResponseJsonError::Refused { path, reason } => {
             let name = source.name;
             let line = format!(in alloc; "{name}: {path}: {reason}");

@@ -1,10 +1,8 @@
 //! Requests that are decided in stages, of which each hands a line on.
-ghost use Rattle.std.specs.Prelude.{◌≡◌, IfOk, IfErr};
-ghost use Rattle.cedar_model.specs.Chains.{all_residuals};
-ghost use Rattle.cedar_authorizer.specs.Responding.{considered};
-ghost use Rattle.cedar_authorizer.specs.responses.Rows.{rows_view};
+ghost use Rattle.std.specs.Prelude.{◌≡◌, [], IfOk, IfErr};
 ghost use Rattle.cedar_extensions.specs.Extensions.{extensions_view, calls_of};
 ghost use Rattle.cedar_functions.specs.Functions.{these, signatures_of};
+ghost use Rattle.cedar_layers.specs.PolicySets.{policies_view};
 ghost use Rattle.cedar_cli.specs.Reasons.{IsToldFor};
 ghost use Rattle.cedar_cli.specs.Stopped.{AreNotTakenFrom, IsPartlyUnanswered, IsPartlyUnansweredBy};
 ghost use Rattle.cedar_cli.specs.Stopped.{IsPartlyUnansweredOver};
@@ -14,7 +12,6 @@ ghost use Rattle.cedar_cli_relays.specs.Saved.{IsResumed, IsTakenOn, IsTakenOnOv
 ghost use Rattle.cedar_cli_relays.specs.Unresumed.{IsNotResumed, IsNotTakenOn};
 
 use crate::lines::{line_of_response, response_of_line};
-use crate::policies::policies_of_response;
 use cedar_cli::{
     Asked, Printed, Refusal, Source, Stages, Step, Store, Way, all_stages, given_store,
     print_stages_of, read_over, stages_from, tell_templates,
@@ -163,7 +160,7 @@ fn print_and_save(
 
 /// The response that the line says, taken further by these steps over the entities that are given, each step over its
 /// own if it brings some: what is printed of it and of each step, and the line of the last response. The request and the
-/// policies, with their names, are those of the line, and errors are handled as it says. Refused where the line says no response, with the
+/// policies are those of the line, and errors are handled as it says. Refused where the line says no response, with the
 /// path of the part at fault; where the entities can't be read; and where a step can't be taken, as past a recorded
 /// limit of levels.
 pub fn resume(
@@ -255,7 +252,7 @@ fn resume_over(
         &mut warnings,
     ) {
         Ok(stages) => {
-            let saved = print_from_response(alloc, line, way, &stages, extensions, warnings);
+            let saved = print_without_policies(alloc, line, way, &stages, extensions, warnings);
             drop(stages);
             match saved {
                 Ok(saved) => Ok(saved),
@@ -269,8 +266,8 @@ fn resume_over(
     }
 }
 
-// The text of the policies is not there: they are those of the response, with their names.
-fn print_from_response(
+// The text of the policies is not there: they are called as the response calls them.
+fn print_without_policies(
     alloc: Global,
     line: Source<'_>,
     way: Way,
@@ -278,21 +275,21 @@ fn print_from_response(
     extensions: &Extensions<'_>,
     warnings: String,
 ) -> Result<Saved, Refusal>
-    ensures saved { IfOk result (λ s. (ps : _) × (considered ps ≡ all_residuals (rows_view stages.now.first))
-        × ArePrintedAndSaved (names_of extensions.now) line.entry.text.now ps way.is_json stages.now.first
-        stages.now.later.items s) }
+    ensures saved { IfOk result (λ s. (ps : _) × (policies_view ps ≡ []) × ArePrintedAndSaved
+        (names_of extensions.now) line.entry.text.now ps way.is_json stages.now.first stages.now.later.items s) }
     ensures memory { IfErr result (IsToldFor ⊥) }
 {
-    match policies_of_response(alloc, &stages.first) {
-        Ok(policies) => {
-            let saved = print_and_save(alloc, line, &policies, way, stages, extensions, warnings);
-            drop(policies);
+    match PolicySet::try_from_iter(alloc, Vec::new(alloc)) {
+        Ok(none) => {
+            let saved = print_and_save(alloc, line, &none, way, stages, extensions, warnings);
+            drop(none);
             match saved {
                 Ok(saved) => Ok(saved),
                 Err(AllocError) => Err(Refusal::Memory),
             }
         }
-        Err(AllocError) => {
+        Err(error) => {
+            drop(error);
             drop(warnings);
             Err(Refusal::Memory)
         }

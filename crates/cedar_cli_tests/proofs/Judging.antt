@@ -1,5 +1,5 @@
 -- What is printed of one test, and what holds of the tests alone.
-use Rattle.std.proofs.Common.{◌≡◌, sym, ap, subst, ◌∙◌, ◌+◌, ◌++◌, ℕ, List, [], ◌∷◌, ◌⊎◌, inl, inr, Option, Some, None, option_map, string_bytes, Result, Ok, Err, IfOk}
+use Rattle.std.proofs.Common.{◌≡◌, sym, ap, subst, ◌∙◌, ◌+◌, ◌++◌, ℕ, List, [], ◌∷◌, Option, Some, None, option_map, string_bytes, Result, Ok, Err, IfOk}
 use Rattle.std.specs.Prelude.{IsSomeAnd}
 use Rattle.std.specs.declared.alloc.AllocError.{AllocError}
 use Rattle.json.specs.Json.{Json, document}
@@ -24,9 +24,9 @@ use Rattle.cedar_cli.specs.Standard.{standard_extensions, standard_calls}
 use Rattle.cedar_cli_tests.specs.declared.results.Results.{Results}
 use Rattle.cedar_cli_tests.specs.declared.results.Verdict.{Verdict}
 use Rattle.cedar_cli_tests.specs.declared.texts.TestTexts.{TestTexts}
-use Rattle.cedar_cli_tests.specs.Results.{verdict_view, IsRefusalTold, AreResults, AreTestedBy, IsUntestedBy, IsNotRun, by_entities, by_tests}
+use Rattle.cedar_cli_tests.specs.Results.{verdict_view, IsRefusalTold, AreResults, AreTestedBy, IsUntestedBy, by_entities, by_tests}
 use Rattle.cedar_cli_tests.specs.Texts.{AreTexts}
-use Rattle.cedar_cli_tests.specs.Tested.{VerdictView, verdict_of, AreSources, question, IsVerdict, judged, unasked, AreEach, AreNoTests, no_tests, LackEntities, AreNotRun, for_tests, for_entities, lines_of, counts_line, status_of, passed, AreUntested, entities_unread, tests_unread}
+use Rattle.cedar_cli_tests.specs.Tested.{VerdictView, verdict_of, AreSources, question, IsVerdict, judged, unasked, AreEach, AreNoTests, no_tests, lines_of, counts_line, status_of, passed, AreUntested, entities_unread, tests_unread}
 
 -- ---- one test
 
@@ -102,13 +102,6 @@ says text j P said unique h = subst (λ o. IsSomeAnd o (λ k. HasUniqueKeys k ×
 
 pub not_tests : (text : Text) (j : Json) → document text ≡ Some j → tests_in j ≡ None → AreNoTests text
 not_tests text j said none = no_tests (subst (λ o. IsSomeAnd o (λ k. tests_in k ≡ None)) (sym said) none)
-
--- no array of tests, or one of them lacks entities
-pub not_run : (q : Asked) (text : Text) (j : Json) → document text ≡ Some j → HasUniqueKeys j → IsNotRun q j
-    → AreNotRun q text
-not_run q text j said unique (inl none) = for_tests (not_tests text j said none)
-not_run q text j said unique (inr lack) =
-    for_entities (says text j (λ k. LackEntities q.entities (tests_in k)) said unique lack)
 
 -- a refusal for this reason, or for want of memory
 pub told_as : (P : Type 0) (r : Refusal) → P → IsToldFor P r

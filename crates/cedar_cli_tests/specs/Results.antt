@@ -1,5 +1,5 @@
 -- Tests of policies that are read: what is printed of them.
-use Rattle.std.specs.Prelude.{◌≡◌, ◌⊎◌, ℕ, List, Some, None, string_bytes}
+use Rattle.std.specs.Prelude.{◌≡◌, ℕ, List, Some, string_bytes}
 use Rattle.json.specs.Json.{Json}
 use Rattle.cedar_model.specs.Terms.{Text}
 use Rattle.cedar_model.specs.World as world
@@ -19,7 +19,7 @@ use Rattle.cedar_regression.specs.Answered.{IsAnswerOver}
 use Rattle.cedar_cli_tests.specs.declared.results.Results.{Results}
 use Rattle.cedar_cli_tests.specs.declared.results.Verdict.{Verdict}
 use Rattle.cedar_cli_tests.specs.Tested.{VerdictView, verdict_of, IsVerdict, IsUnread, AreEach, lines_of, passed, failed}
-use Rattle.cedar_cli_tests.specs.Tested.{AreTestedAs, AreNotRun, LackEntities, first_over_none}
+use Rattle.cedar_cli_tests.specs.Tested.{AreTestedAs, AreNoTests}
 
 -- of these policies: there is the store that is asked over, and an answer
 pub record IsAnsweredBy (X : world.Extensions) (calls : StoredCalls) (ps : PolicySet) (w : Way) (q : Asked)
@@ -57,7 +57,6 @@ pub record AreReadTestedBy (X : world.Extensions) (calls : StoredCalls) (ps : Po
     (p : Printed) : Type 0 where
   pub said : List SaidTest
   pub tests_are : tests_in j ≡ Some said
-  pub over_some : first_over_none q.entities said ≡ None
   pub tested : AreTestedBy X calls ps w q said p
 
 -- the text says them
@@ -65,14 +64,9 @@ pub record IsTextTestedBy (X : world.Extensions) (calls : StoredCalls) (ps : Pol
     (tests : Text) (p : Printed) : Type 0 where
   pub said : List SaidTest
   pub tests_are : SaysSo tests (λ j. tests_in j ≡ Some said)
-  pub over_some : first_over_none q.entities said ≡ None
   pub tested : AreTestedBy X calls ps w q said p
-
--- the value is no array of tests, or one of them is to be asked over no entities
-abbrev pub IsNotRun : Asked → Json → Type 0
-IsNotRun q j = (tests_in j ≡ None) ⊎ LackEntities q.entities (tests_in j)
 
 -- the entities that are given can't be read, or the tests
 pub data IsUntestedBy (X : world.Extensions) (calls : StoredCalls) (q : Asked) (tests : Text) : Type 0 where
   by_entities : IsKnownStoreUnread X calls q.entities q.max_ancestors → IsUntestedBy X calls q tests
-  by_tests : AreNotRun q tests → IsUntestedBy X calls q tests
+  by_tests : AreNoTests tests → IsUntestedBy X calls q tests

@@ -1,6 +1,6 @@
 -- Tests of policies: what is printed of them.
 use Rattle.std.specs.Prelude.{◌≡◌, ⊤, ◌++◌, ◌+◌, ◌==◌, ℕ, Bool, true, false, not, cond, List, [], ◌∷◌, flat_map, codes}
-use Rattle.std.specs.Prelude.{Option, Some, None, is_some, option_map, IsSomeAnd, string_bytes}
+use Rattle.std.specs.Prelude.{Option, Some, None, option_map, IsSomeAnd, string_bytes}
 use Rattle.json.specs.Json.{Json, document}
 use Rattle.json.specs.Print.{print}
 use Rattle.json.specs.Strict.{HasUniqueKeys}
@@ -40,21 +40,6 @@ question q request (Some entities) = asking (over q entities) request
 pub record AreSources (t : SaidTest) (request : Source) (entities : Option Source) : Type 0 where
   pub request_is : request.text.now ≡ json_text t.request
   pub entities_are : option_map (λ (s : Source). s.text.now) entities ≡ option_map json_text t.entities
-
--- the name of the first of these tests that has no entities of its own
-abbrev pub first_without : List SaidTest → Option Text
-first_without [] = None
-first_without (t ∷ ts) = cond (is_some t.entities) (first_without ts) (Some t.name)
-
--- the name of the first that is to be asked over no entities: none are given, and it has none of its own
-abbrev pub first_over_none : Option Source → List SaidTest → Option Text
-first_over_none None ts = first_without ts
-first_over_none (Some s) ts = None
-
--- one is to be asked over no entities
-abbrev pub LackEntities : Option Source → Option (List SaidTest) → Type 0
-LackEntities given None = ⊥
-LackEntities given (Some ts) = is_some (first_over_none given ts) ≡ true
 
 -- ---- one test
 
@@ -146,8 +131,6 @@ pub record AreTestedAs (Answers : Asked → AnswerView → Type 0) (Unread : Opt
 pub record IsTested (text : Text) (q : Asked) (tests : Text) (w : Way) (p : Printed) : Type 0 where
   pub said : List SaidTest
   pub tests_are : SaysSo tests (λ j. tests_in j ≡ Some said)
-  -- each is asked over its own entities or over those that are given
-  pub over_some : first_over_none q.entities said ≡ None
   pub tested : AreTestedAs (IsAnswerOf text w) (IsUnread standard_extensions standard_calls) q said p
 
 -- ---- what is refused
@@ -158,14 +141,9 @@ pub data AreNoTests (tests : Text) : Type 0 where
   key_twice : IsSomeAnd (document tests) (λ j. ¬ HasUniqueKeys j) → AreNoTests tests
   no_tests : IsSomeAnd (document tests) (λ j. tests_in j ≡ None) → AreNoTests tests
 
--- or one of them is to be asked over no entities
-pub data AreNotRun (q : Asked) (tests : Text) : Type 0 where
-  for_tests : AreNoTests tests → AreNotRun q tests
-  for_entities : SaysSo tests (λ j. LackEntities q.entities (tests_in j)) → AreNotRun q tests
-
 -- the policies can't be read, or the entities that are given, or the tests
 pub data AreUntested (text : Text) (q : Asked) (tests : Text) : Type 0 where
   policies_unread : ArePoliciesUnread standard_knowledge text → AreUntested text q tests
   entities_unread : IsKnownStoreUnread standard_extensions standard_calls q.entities q.max_ancestors
       → AreUntested text q tests
-  tests_unread : AreNotRun q tests → AreUntested text q tests
+  tests_unread : AreNoTests tests → AreUntested text q tests

@@ -96,9 +96,10 @@ fn answer_own(
     ensures refused { IfErr result (IsToldFor (IsAskedUnread (extensions_view extensions.now)
         (calls_of extensions.now) (asking asked.now request.entry))) }
 {
-    let store = known_store(alloc, asked, extensions)?;
+    let mut told = String::new(alloc);
+    let store = known_store(alloc, asked, extensions, &mut told)?;
     let answer = answer_request(alloc, tested, &store.entities, asked, request, extensions);
-    drop(store);
+    drop((store, told));
     answer
 }
 

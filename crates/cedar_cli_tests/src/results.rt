@@ -91,7 +91,6 @@ impl Results {
         ensures output { IfOk result (λ p. string_bytes p.output
             ≡ string_bytes self.output ++ counts_line self.passed self.failed) }
         ensures status { IfOk result (λ p. p.status ≡ status_of self.failed) }
-        ensures warnings { IfOk result (λ p. p.warnings ≡ warnings) }
     {
         let Results {
             output,

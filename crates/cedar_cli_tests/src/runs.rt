@@ -1,6 +1,5 @@
 //! Tests of policies, one after another.
-ghost use Rattle.std.specs.Prelude.{◌≡◌, None, Ok, true, is_some, map, IfOk, OnOk, IfErr, option_copied};
-ghost use Rattle.std.specs.Prelude.{string_bytes};
+ghost use Rattle.std.specs.Prelude.{◌≡◌, None, map, IfOk, IfErr};
 ghost use Rattle.json.specs.Tree.{HasNumbers};
 ghost use Rattle.json.specs.Value.{value_view};
 ghost use Rattle.cedar_extensions.specs.Extensions.{extensions_view, calls_of};
@@ -10,10 +9,9 @@ ghost use Rattle.cedar_policy_tests.specs.Views.{test_view, tests_view};
 ghost use Rattle.cedar_policy_tests.specs.Written.{AreWritable};
 ghost use Rattle.cedar_cli.specs.Questions.{IsKnownStore};
 ghost use Rattle.cedar_cli.specs.Reasons.{IsToldFor};
-ghost use Rattle.cedar_cli.specs.Warned.{AreNotices, AreTemplatesReported, template_notices};
-ghost use Rattle.cedar_cli_tests.specs.Tested.{IsTested, AreUntested, AreNotRun, first_without, first_over_none};
+ghost use Rattle.cedar_cli_tests.specs.Tested.{IsTested, AreUntested, AreNoTests};
 ghost use Rattle.cedar_cli_tests.specs.Results.{AreResults, AreTestedBy, AreReadTestedBy, IsTextTestedBy};
-ghost use Rattle.cedar_cli_tests.specs.Results.{IsUntestedBy, IsNotRun};
+ghost use Rattle.cedar_cli_tests.specs.Results.{IsUntestedBy};
 
 use crate::answers::Tested;
 use crate::one::run_test;
@@ -39,8 +37,8 @@ use std::io::Stderr;
 /// otherwise than it expects, with what differs, or that can't be asked, with the reason; and behind them one of how
 /// many pass and fail. A test is asked over its own entities, or over those that are given. The exit status is 1 where a
 /// test fails, and else 0. How far a long run is, is told on the terminal, if there is one. Templates, which decide
-/// nothing, are told as warnings. Refused where policies or entities can't be read, where the text is no array of
-/// tests, and where no entities are given and a test has none of its own.
+/// nothing, are told as warnings. Refused where policies or entities can't be read, and where the text is no array of
+/// tests.
 pub fn run_tests(
     alloc: Global,
     policies: Source<'_>,
@@ -50,7 +48,6 @@ pub fn run_tests(
     terminal: Option<Stderr>,
 ) -> Result<Printed, Refusal>
     ensures tested { IfOk result (IsTested policies.entry.text.now asked.now tests.entry.text.now way) }
-    ensures warned { IfOk result (AreTemplatesReported policies.entry) }
     ensures refused { IfErr result (IsToldFor
         (AreUntested policies.entry.text.now asked.now tests.entry.text.now)) }
 {
@@ -73,10 +70,7 @@ fn template_warnings(
     alloc: Global,
     policies: Source<'_>,
     parsed: &ParsedPolicies,
-) -> Result<String, AllocError>
-    ensures { IfOk result (λ w.
-        AreNotices (template_notices policies.entry parsed.now.templates.items) (string_bytes w)) }
-{
+) -> Result<String, AllocError> {
     let mut warnings = String::new(alloc);
     tell_templates(alloc, policies, &parsed.templates, &mut warnings)?;
     Ok(warnings)
@@ -92,12 +86,11 @@ fn run_read(
 ) -> Result<Printed, Refusal>
     ensures tested { IfOk result (IsTextTestedBy (extensions_view extensions.now) (calls_of extensions.now)
         tested.entry.policies.now tested.entry.way asked.now tests.entry.text.now) }
-    ensures warnings { IfOk result (λ p. warnings ≡ Ok p.warnings) }
     ensures refused { IfErr result (IsToldFor (IsUntestedBy (extensions_view extensions.now)
         (calls_of extensions.now) asked.now tests.entry.text.now)) }
 {
-    let warnings = warnings?;
-    let store = known_store(alloc, asked, extensions)?;
+    let mut warnings = warnings?;
+    let store = known_store(alloc, asked, extensions, &mut warnings)?;
     let printed = run_text(
         alloc,
         tested,
@@ -123,22 +116,21 @@ fn run_text(
     requires { IsKnownStore (extensions_view extensions.now) (calls_of extensions.now) asked.now store.now }
     ensures tested { IfOk result (IsTextTestedBy (extensions_view extensions.now) (calls_of extensions.now)
         tested.entry.policies.now tested.entry.way asked.now tests.entry.text.now) }
-    ensures warnings { IfOk result (λ p. p.warnings ≡ warnings) }
-    ensures refused { IfErr result (IsToldFor (AreNotRun asked.now tests.entry.text.now)) }
+    ensures refused { IfErr result (IsToldFor (AreNoTests tests.entry.text.now)) }
 {
     let mut scratch = Scratch::new(alloc);
     match parse_tests(alloc, tests.text, &mut scratch) {
         Ok(value) => run_value(
             alloc, tested, store, asked, tests, &value, extensions, warnings,
         ),
-        Err(error) => Err(unread(alloc, asked, tests, error)),
+        Err(error) => Err(unread(alloc, tests, error)),
     }
 }
 
 #[cold]
-fn unread(alloc: Global, asked: &Asked<'_, '_>, tests: Source<'_>, error: TestsError) -> Refusal
+fn unread(alloc: Global, tests: Source<'_>, error: TestsError) -> Refusal
     requires { IsUnread tests.text.now error }
-    ensures { IsToldFor (AreNotRun asked.now tests.entry.text.now) result }
+    ensures { IsToldFor (AreNoTests tests.entry.text.now) result }
 {
     match error {
         TestsError::Syntax => unread_json(alloc, tests, JsonError::Syntax),
@@ -161,88 +153,13 @@ fn run_value(
     requires writable { HasNumbers (value_view value.now) }
     ensures tested { IfOk result (AreReadTestedBy (extensions_view extensions.now) (calls_of extensions.now)
         tested.entry.policies.now tested.entry.way asked.now (value_view value.now)) }
-    ensures warnings { IfOk result (λ p. p.warnings ≡ warnings) }
-    ensures refused { IfErr result (IsToldFor (IsNotRun asked.now (value_view value.now))) }
+    ensures refused { IfErr result (IsToldFor (specs.tests_in (value_view value.now) ≡ None)) }
 {
     let read = tests_in(alloc, value)?;
     match read {
-        Some(all) => run_given(
-            alloc, tested, store, asked, tests, all, extensions, warnings,
-        ),
+        Some(all) => run_all(alloc, tested, store, asked, all, extensions, warnings),
         None => Err(no_tests(alloc, tests, value)),
     }
-}
-
-// Each is asked over its own entities or over those that are given; refused where neither are there.
-fn run_given(
-    alloc: Global,
-    tested: Tested<'_>,
-    store: &Entities,
-    asked: &Asked<'_, '_>,
-    tests: Source<'_>,
-    all: Vec<PolicyTest<'_, '_>>,
-    extensions: &Extensions<'_>,
-    warnings: String,
-) -> Result<Printed, Refusal>
-    requires given { IsKnownStore (extensions_view extensions.now) (calls_of extensions.now) asked.now store.now }
-    requires writable { AreWritable (tests_view all) }
-    ensures over { OnOk result (first_over_none asked.now.entities (tests_view all.entry) ≡ None) }
-    ensures tested { IfOk result (AreTestedBy (extensions_view extensions.now) (calls_of extensions.now)
-        tested.entry.policies.now tested.entry.way asked.now (tests_view all.entry)) }
-    ensures warnings { IfOk result (λ p. p.warnings ≡ warnings) }
-    ensures refused { IfErr result (IsToldFor
-        (is_some (first_over_none asked.now.entities (tests_view all.entry)) ≡ true)) }
-{
-    match first_over_none(asked, &all) {
-        Some(name) => {
-            let refusal = no_entities(alloc, tests, name);
-            drop(all);
-            Err(refusal)
-        }
-        None => run_all(alloc, tested, store, asked, all, extensions, warnings),
-    }
-}
-
-// The name of the first test that is to be asked over no entities.
-fn first_over_none<'a>(asked: &Asked<'_, '_>, tests: &[PolicyTest<'_, 'a>]) -> Option<&'a str>
-    ensures { option_copied result ≡ first_over_none asked.now.entities (map test_view tests.now) }
-{
-    match asked.entities {
-        Some(_) => None,
-        None => first_without(tests),
-    }
-}
-
-// The name of the first test that has no entities of its own.
-fn first_without<'a>(tests: &[PolicyTest<'_, 'a>]) -> Option<&'a str>
-    ensures { option_copied result ≡ first_without (map test_view tests.now) }
-{
-    'tests: for test in tests {
-        if !has_own(test) {
-            return Some(test.name);
-        }
-    }
-    None
-}
-
-fn has_own(test: &PolicyTest<'_, '_>) -> bool
-    ensures { result ≡ is_some (test_view test.now).entities }
-{
-    match test.entities {
-        Some(_) => true,
-        None => false,
-    }
-}
-
-#[cold]
-fn no_entities(alloc: Global, tests: Source<'_>, name: &str) -> Refusal {
-    let file = tests.name;
-    refuse_with_line(
-        alloc,
-        format!(in alloc;
-            "{file}: the test `{name}` has no entities of its own: give it some, or all that have none by --entities"
-        ),
-    )
 }
 
 #[cold]
@@ -270,7 +187,6 @@ fn run_all(
     requires writable { AreWritable (tests_view tests) }
     ensures tested { IfOk result (AreTestedBy (extensions_view extensions.now) (calls_of extensions.now)
         tested.entry.policies.now tested.entry.way asked.now (tests_view tests.entry)) }
-    ensures warnings { IfOk result (λ p. p.warnings ≡ warnings) }
     ensures refused { IfErr result (IsToldFor ⊥) }
 {
     let results = run_each(alloc, tested, store, asked, &tests, extensions);

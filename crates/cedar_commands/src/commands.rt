@@ -314,9 +314,7 @@ fn check_parse<'a>(alloc: Global) -> Result<Command<'a>, AllocError> {
         .arg(policies(alloc))?
         .arg(policy_format(alloc))?
         .arg(template_linked(alloc))?
-        .arg(flag(alloc, "strict", "Tells the policies that can't be meant"))?
-        .arg(entities(alloc).requires_arg("strict")?)?
-        .arg(max_ancestors(alloc).requires_arg("entities")?)?
+        .arg(flag(alloc, "strict", "Tells the policies that apply in no world"))?
         .arg(flag(alloc, "unknowns", "The policies may call `unknown`"))?
         .arg(deny_warnings(alloc)?)
 }

@@ -5,8 +5,8 @@ use crate::links::link;
 use crate::relays::{is_relayed, relay};
 use cedar_cli::{
     Asked, ErrorHandling, Printed, Refusal, Source, Step, Way, authorize, authorize_and_explain,
-    authorize_each, check_format, check_policies, check_strictly, check_strictly_over,
-    evaluate_expression, format_policies, partially_authorize, translate_to_json,
+    authorize_each, check_format, check_policies, check_strictly, evaluate_expression,
+    format_policies, partially_authorize, translate_to_json,
 };
 use cedar_cli_explain::authorize_and_explain_as_json;
 use cedar_cli_sql::plan_as_sql;
@@ -143,7 +143,7 @@ fn run_with(
             let is_json = matches.get_flag("json");
             evaluate_expression(alloc, expression(matches), &asked, limit(matches), is_json)
         }
-        "check-parse" => check(alloc, policies, &asked, matches),
+        "check-parse" => check(alloc, policies, matches),
         "translate-policy" => translate(alloc, policies, matches),
         _ => format(alloc, policies, matches.get_flag("check")),
     }
@@ -203,21 +203,20 @@ fn explain(
     }
 }
 
-// With `--strict` the policies are told that can't be meant, and with entities also what these don't have.
+// With `--strict` the policies are told that apply in no world.
 fn check(
     alloc: Global,
     policies: Source<'_>,
-    asked: &Asked<'_, '_>,
     matches: &ArgMatches<'_>,
 ) -> Result<Printed, Refusal> {
     let has_unknowns = matches.get_flag("unknowns");
     if matches.get_flag("strict") {
-        let is_denied = matches.get_flag("deny-warnings");
-        if asked.entities.is_some() {
-            check_strictly_over(alloc, policies, asked, has_unknowns, is_denied)
-        } else {
-            check_strictly(alloc, policies, has_unknowns, is_denied)
-        }
+        check_strictly(
+            alloc,
+            policies,
+            has_unknowns,
+            matches.get_flag("deny-warnings"),
+        )
     } else {
         check_policies(alloc, policies, has_unknowns)?;
         Ok(nothing(alloc))

@@ -1,5 +1,5 @@
 //! What two sets of policies answer differently.
-ghost use Rattle.std.specs.Prelude.{◌≡◌, ◌++◌, Ok, false, true, map, option_map, IfOk, IfErr, string_bytes};
+ghost use Rattle.std.specs.Prelude.{◌≡◌, false, true, map, option_map, IfOk, IfErr, string_bytes};
 ghost use Rattle.cedar_log.specs.Reading.{asked_of, IsAsked};
 ghost use Rattle.std.specs.Str.Lines.{lines};
 ghost use Rattle.cedar_extensions.specs.Extensions.{extensions_view, calls_of};
@@ -7,7 +7,6 @@ ghost use Rattle.cedar_expectations.specs.Answers.{answer_view};
 ghost use Rattle.cedar_expectations.specs.Compared.{comparison_view, compared, status_of};
 ghost use Rattle.cedar_cli.specs.Batch.{asking, IsTold, IsRefusalLine};
 ghost use Rattle.cedar_cli.specs.Reasons.{IsToldFor, IsKnownStoreUnread};
-ghost use Rattle.cedar_cli.specs.Warned.{AreNotices, AreBothTemplatesReported, template_notices};
 ghost use Rattle.cedar_regression.specs.Compared.{AreCompared, AreUncompared, AreComparedBy, AreComparedOver};
 ghost use Rattle.cedar_regression.specs.Compared.{asked_lines, AreLinesOver, IsLineOver};
 
@@ -35,9 +34,8 @@ const REQUEST_NAME: &str = "the request";
 /// text has one in JSON, or is a line of a log, whose request is asked: in their order a line of JSON for each request to
 /// which the decisions differ, or a reason or an error of one answer is none of the other; and for each that is refused a
 /// line with the reason, and its number. The exit status is 1 where a line is refused, else 2 where anything differs, and
-/// else 0. How far a long run is, is told on the terminal, if there is one. Reported as
-/// warnings are the templates without a link, which decide nothing, and no more. Refused where policies or entities can't
-/// be read.
+/// else 0. How far a long run is, is told on the terminal, if there is one. Templates, which decide nothing, are told as
+/// warnings. Refused where policies or entities can't be read.
 pub fn compare_policies(
     alloc: Global,
     old: Source<'_>,
@@ -49,7 +47,6 @@ pub fn compare_policies(
 ) -> Result<Printed, Refusal>
     ensures compared { IfOk result
         (AreCompared old.entry.text.now new.entry.text.now asked.now requests.now way) }
-    ensures warned { IfOk result (AreBothTemplatesReported old.entry new.entry) }
     ensures refused { IfErr result (IsToldFor
         (AreUncompared old.entry.text.now new.entry.text.now asked.now)) }
 {
@@ -81,10 +78,7 @@ fn template_warnings(
     old_parsed: &ParsedPolicies,
     new: Source<'_>,
     new_parsed: &ParsedPolicies,
-) -> Result<String, AllocError>
-    ensures { IfOk result (λ w. AreNotices (template_notices old.entry old_parsed.now.templates.items
-        ++ template_notices new.entry new_parsed.now.templates.items) (string_bytes w)) }
-{
+) -> Result<String, AllocError> {
     let mut warnings = String::new(alloc);
     tell_templates(alloc, old, &old_parsed.templates, &mut warnings)?;
     tell_templates(alloc, new, &new_parsed.templates, &mut warnings)?;
@@ -104,13 +98,12 @@ fn compare_read(
 ) -> Result<Printed, Refusal>
     ensures compared { IfOk result (AreComparedBy (extensions_view extensions.now) (calls_of extensions.now)
         old.now new.now asked.now requests.now way) }
-    ensures warnings { IfOk result (λ p. warnings ≡ Ok p.warnings) }
     ensures refused { IfErr result (IsToldFor
         (IsKnownStoreUnread (extensions_view extensions.now) (calls_of extensions.now) asked.now.entities
         asked.now.max_ancestors)) }
 {
-    let warnings = warnings?;
-    let store = known_store(alloc, asked, extensions)?;
+    let mut warnings = warnings?;
+    let store = known_store(alloc, asked, extensions, &mut warnings)?;
     let printed = compare_text(
         alloc,
         old,
@@ -139,10 +132,9 @@ fn compare_text(
     extensions: &Extensions<'_>,
     warnings: String,
 ) -> Result<Printed, AllocError>
-    ensures compared { IfOk result (AreComparedOver (extensions_view extensions.now) (calls_of extensions.now)
+    ensures { IfOk result (AreComparedOver (extensions_view extensions.now) (calls_of extensions.now)
         old.now new.now entities.now asked.now
         way (asked_lines requests.now)) }
-    ensures warnings { IfOk result (λ p. p.warnings ≡ warnings) }
 {
     let lines = lines_of(alloc, requests)?;
     let compared = compare_lines(
@@ -164,7 +156,6 @@ fn lines_of<'t>(alloc: Global, text: &'t str) -> Result<Vec<&'t str>, AllocError
 fn print_all(all: Comparisons, warnings: String) -> Printed
     ensures output { result.output ≡ all.output }
     ensures status { result.status ≡ status_of all.is_any_refused all.is_any_different }
-    ensures warnings { result.warnings ≡ warnings }
 {
     let status = all.status();
     Printed {

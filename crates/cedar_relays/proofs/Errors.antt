@@ -1,15 +1,15 @@
 -- Errors read back as their kinds and what they say.
-use Rattle.std.proofs.Common.{◌≡◌, ℕ, ◌+◌, if◌then◌else◌, Bool, true, false, true≢false, ◌||◌, List, [], ◌∷◌, Ok, refl, sym, ap, ◌∙◌, subst}
+use Rattle.std.proofs.Common.{◌≡◌, ℕ, ◌+◌, Bool, true, false, true≢false, ◌||◌, List, [], ◌∷◌, Ok, refl, sym, ap, ◌∙◌, subst}
 use Rattle.json.specs.Json.{Json}
 use Rattle.json.specs.Value.{items_of}
 use Rattle.cedar_model.specs.Terms.{Text}
 use Rattle.cedar_model.specs.Chains.{is_limit, has_limit}
 use Rattle.cedar_model.specs.Failures.{Failure, failure_kind, entity_is_missing, entity_attribute_is_missing, record_attribute_is_missing, function_is_missing, type_is_wrong, arguments_are_miscounted, binary_overflow, unary_overflow, slot_is_unlinked, function_has_failed, residual_is_left, recursion_limit, out_of_memory, memory_is_wrapped}
 use Rattle.cedar_policy_json_reader.specs.Paths.{at_index}
-use Rattle.cedar_response_json.specs.Errors.{IsErrorJson, AreEachError, AreErrorsJson, Says, kind_word}
+use Rattle.cedar_response_json.specs.Errors.{IsErrorJson, AreEachError, AreErrorsJson, kind_word}
 use Rattle.cedar_response_json_reader.specs.Errors.{error_said, errors_from, errors_said, told_failure}
 use Rattle.cedar_response_json_reader.specs.Refusals.{before, under}
-use Rattle.cedar_relays.specs.Travels.{IsToldOf, AreToldOf, SaysAgain, AreSaidAgain, KeepsLimit}
+use Rattle.cedar_relays.specs.Travels.{IsToldOf, AreToldOf, KeepsLimit}
 
 -- what is read of the JSON of errors: they are told, each in turn
 pub record Back (es : List (Text × Failure)) (k : ℕ) (js : List Json) : Type 0 where
@@ -31,32 +31,6 @@ back (e ∷ es) k (j ∷ js) h =
       told = ((h.0.0, h.0.1, refl), more.told);
       read = λ i. before (under (at_index k) (one_back e j h.0 i)) (more.read i);
     }
-
--- ---- what errors say again
-
-said_again : (f : Failure) (m : Text) → Says f m → SaysAgain f m (told_failure (kind_word f) m)
-said_again (entity_is_missing e) m h = (refl, refl)
-said_again (entity_attribute_is_missing e k was other available total) m h = (refl, refl)
-said_again (record_attribute_is_missing k available total) m h = (refl, refl)
-said_again (function_is_missing f) m h = (refl, refl)
-said_again (type_is_wrong expected others actual) m h = (refl, refl)
-said_again (arguments_are_miscounted f expected actual) m h = (refl, refl)
-said_again (binary_overflow op v w) m h = (refl, refl)
-said_again (unary_overflow op v) m h = (refl, refl)
-said_again (slot_is_unlinked s) m h = (refl, refl)
-said_again (function_has_failed extension message) m h = λ other.
-    ap (λ (b : Bool). if b then recursion_limit else function_has_failed extension m) other ∙ ap (function_has_failed extension) h
-said_again (residual_is_left u) m h = (refl, refl)
-said_again recursion_limit m h = refl
-said_again out_of_memory m h = (refl, refl)
-said_again memory_is_wrapped m h = (refl, refl)
-
-pub all_said_again : (es ts : List (Text × Failure)) → AreToldOf es ts → AreSaidAgain es ts
-all_said_again [] [] h = tt
-all_said_again [] (t ∷ ts) h = absurd h
-all_said_again (e ∷ es) [] h = absurd h
-all_said_again (e ∷ es) (t ∷ ts) h =
-    ((h.0.0, h.0.1, subst (λ (u : Text × Failure). SaysAgain e.1 h.0.0 u.1) (sym h.0.2) (said_again e.1 h.0.0 h.0.1)), all_said_again es ts h.1)
 
 -- ---- the recursion limit
 

@@ -31,7 +31,7 @@ use Rattle.cedar_response_json_reader.specs.Rows.{rows_said}
 use Rattle.cedar_response_json_reader.specs.Responses.{mode_said, Told, IsRead, response_said}
 use Rattle.cedar_staged.specs.Wires.{SaysTheSame}
 use Rattle.cedar_relays.specs.Travels.{ReadsBack, RowsReadBack, RequestReadsBack, CanTravel, ComesBack, AreToldOf, WhatIsReadComesBack}
-use Rattle.cedar_relays.proofs.Errors.{back, limit_kept, all_said_again}
+use Rattle.cedar_relays.proofs.Errors.{back, limit_kept}
 use Rattle.cedar_relays.proofs.Policies.{all_back, false_reads}
 
 itself : (t : Text) → bytes_eq t t ≡ true
@@ -136,7 +136,6 @@ module _ (r read : PartialResponse) where
       record {
         says_the_same = same x calls n ts h context_is;
         errors_are = are;
-        errors_say = all_said_again (errors_of r) (errors_of read) are;
         limit_is_kept = limit_kept (errors_of r) (errors_of read) are;
       }
 

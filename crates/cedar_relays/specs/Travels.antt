@@ -1,15 +1,11 @@
 -- Responses that are written as a line and read back on another machine.
-use Rattle.std.specs.Prelude.{◌≡◌, ⊤, ℕ, true, false, List, [], ◌∷◌, map, Some, None, Ok, bytes_eq, codes}
+use Rattle.std.specs.Prelude.{◌≡◌, ⊤, ℕ, true, List, [], ◌∷◌, map, None, Ok}
 use Rattle.json.specs.Json.{Json}
 use Rattle.cedar_model.specs.Terms.{Text, Term, principal, action, resource, context}
 use Rattle.cedar_model.specs.World as world
 use Rattle.cedar_model.specs.Agreement.{no_slots}
 use Rattle.cedar_model.specs.Chains.{has_limit}
-use Rattle.cedar_model.specs.Failures.{Failure, entity_is_missing, entity_attribute_is_missing}
-use Rattle.cedar_model.specs.Failures.{record_attribute_is_missing, function_is_missing, type_is_wrong}
-use Rattle.cedar_model.specs.Failures.{arguments_are_miscounted, binary_overflow, unary_overflow, slot_is_unlinked}
-use Rattle.cedar_model.specs.Failures.{function_has_failed, residual_is_left, recursion_limit, out_of_memory}
-use Rattle.cedar_model.specs.Failures.{memory_is_wrapped}
+use Rattle.cedar_model.specs.Failures.{Failure}
 use Rattle.cedar_model.specs.Refusals.{first_repeated}
 use Rattle.cedar_model.specs.Responses.{Row, Reported, reported_true, reported_false, reported_residual}
 use Rattle.cedar_model.specs.Rules.{StoredCalls}
@@ -25,7 +21,7 @@ use Rattle.cedar_policy_json_reader.specs.Expressions.{expression_said}
 use Rattle.cedar_policy_json_reader.specs.Policies.{annotations_said}
 use Rattle.cedar_policy_json_writer.specs.Expressions.{expression_json}
 use Rattle.cedar_policy_json_writer.specs.Policies.{annotations_json}
-use Rattle.cedar_response_json.specs.Errors.{Says, kind_word, travelled}
+use Rattle.cedar_response_json.specs.Errors.{Says, kind_word}
 use Rattle.cedar_response_json.specs.Responses.{IsWritten}
 use Rattle.cedar_response_json_reader.specs.Errors.{told_failure}
 use Rattle.cedar_response_json_reader.specs.Responses.{Reads, response_said}
@@ -82,49 +78,16 @@ AreToldOf [] (t ∷ ts) = ⊥
 AreToldOf (e ∷ es) [] = ⊥
 AreToldOf (e ∷ es) (t ∷ ts) = IsToldOf e t × AreToldOf es ts
 
--- the error that was read says this message, and is written again under this kind
-abbrev pub IsKeptAs : Text → Text → Failure → Type 0
-IsKeptAs kind message t = (travelled t ≡ Some message) × (kind_word t ≡ kind)
-
--- the error that was read says what the first said where it was written, and keeps its kind. The recursion limit, and an
--- error of a function of an extension, unless that has the name of the limit, are read as themselves
-abbrev pub SaysAgain : Failure → Text → Failure → Type 0
-SaysAgain (entity_is_missing e) m t = IsKeptAs (codes "entityDoesNotExist") m t
-SaysAgain (entity_attribute_is_missing e k was other available total) m t =
-    IsKeptAs (codes "entityAttributeDoesNotExist") m t
-SaysAgain (record_attribute_is_missing k available total) m t = IsKeptAs (codes "recordAttributeDoesNotExist") m t
-SaysAgain (function_is_missing f) m t = IsKeptAs (codes "functionDoesNotExist") m t
-SaysAgain (type_is_wrong expected others actual) m t = IsKeptAs (codes "typeError") m t
-SaysAgain (arguments_are_miscounted f expected actual) m t = IsKeptAs (codes "wrongNumberOfArguments") m t
-SaysAgain (binary_overflow op v w) m t = IsKeptAs (codes "integerOverflow") m t
-SaysAgain (unary_overflow op v) m t = IsKeptAs (codes "integerOverflow") m t
-SaysAgain (slot_is_unlinked s) m t = IsKeptAs (codes "unlinkedSlot") m t
-SaysAgain (function_has_failed extension message) m t =
-    bytes_eq extension (codes "recursionLimit") ≡ false → t ≡ function_has_failed extension message
-SaysAgain (residual_is_left u) m t = IsKeptAs (codes "residual") m t
-SaysAgain recursion_limit m t = t ≡ recursion_limit
-SaysAgain out_of_memory m t = IsKeptAs (codes "outOfMemory") m t
-SaysAgain memory_is_wrapped m t = IsKeptAs (codes "functionDoesNotExist") m t
-
--- so each, in their order
-abbrev pub AreSaidAgain : List (Text × Failure) → List (Text × Failure) → Type 0
-AreSaidAgain [] [] = ⊤
-AreSaidAgain [] (t ∷ ts) = ⊥
-AreSaidAgain (e ∷ es) [] = ⊥
-AreSaidAgain (e ∷ es) (t ∷ ts) =
-    ((message : Text) × Says e.1 message × SaysAgain e.1 message t.1) × AreSaidAgain es ts
-
 -- ---- the whole
 
 -- where the recursion limit is recorded, it is recorded there too
 abbrev pub KeepsLimit : List (Text × Failure) → List (Text × Failure) → Type 0
 KeepsLimit es ts = has_limit es ≡ true → has_limit ts ≡ true
 
--- what was read says the same, with the same errors by their kinds and what they say, which they say again
+-- what was read says the same, with the same errors by their kinds and what they say
 pub record ComesBack (r read : PartialResponse) : Type 0 where
   pub says_the_same : SaysTheSame r read
   pub errors_are : AreToldOf (errors_of r) (errors_of read)
-  pub errors_say : AreSaidAgain (errors_of r) (errors_of read)
   pub limit_is_kept : KeepsLimit (errors_of r) (errors_of read)
 
 -- where the JSON is that of a response that can travel, what is read of it, with these extensions, whose functions may

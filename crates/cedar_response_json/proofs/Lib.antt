@@ -3,4 +3,3 @@ pub mod Parts
 pub mod Rows
 pub mod Told
 pub mod Six
-pub mod Stayed

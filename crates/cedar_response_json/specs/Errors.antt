@@ -1,5 +1,5 @@
 -- What is told of errors.
-use Rattle.std.specs.Prelude.{◌≡◌, Bool, ◌||◌, List, [], ◌∷◌, Option, Some, None, if◌then◌else◌, bytes_eq, codes}
+use Rattle.std.specs.Prelude.{◌≡◌, List, [], ◌∷◌, codes}
 use Rattle.json.specs.Json.{Json, string, array}
 use Rattle.json.specs.Value.{items_of}
 use Rattle.cedar_model.specs.Terms.{Text}
@@ -28,34 +28,6 @@ kind_word (residual_is_left u) = codes "residual"
 kind_word recursion_limit = codes "recursionLimit"
 kind_word out_of_memory = codes "outOfMemory"
 kind_word memory_is_wrapped = codes "functionDoesNotExist"
-
--- whether the word names a kind of errors, other than those of functions
-abbrev pub is_kind_word : Text → Bool
-is_kind_word w =
-    bytes_eq w (codes "entityDoesNotExist") || (bytes_eq w (codes "entityAttributeDoesNotExist")
-    || (bytes_eq w (codes "recordAttributeDoesNotExist") || (bytes_eq w (codes "functionDoesNotExist")
-    || (bytes_eq w (codes "typeError") || (bytes_eq w (codes "wrongNumberOfArguments")
-    || (bytes_eq w (codes "integerOverflow") || (bytes_eq w (codes "unlinkedSlot")
-    || (bytes_eq w (codes "residual") || (bytes_eq w (codes "recursionLimit")
-    || bytes_eq w (codes "outOfMemory"))))))))))
-
--- what an error said where it was written, if it was read from a line: it is kept as an error of a function, with its
--- kind for the extension's name
-abbrev pub travelled : Failure → Option Text
-travelled (entity_is_missing e) = None
-travelled (entity_attribute_is_missing e k was other available total) = None
-travelled (record_attribute_is_missing k available total) = None
-travelled (function_is_missing f) = None
-travelled (type_is_wrong expected others actual) = None
-travelled (arguments_are_miscounted f expected actual) = None
-travelled (binary_overflow op v w) = None
-travelled (unary_overflow op v) = None
-travelled (slot_is_unlinked s) = None
-travelled (function_has_failed extension message) = if is_kind_word extension then Some message else None
-travelled (residual_is_left u) = None
-travelled recursion_limit = None
-travelled out_of_memory = None
-travelled memory_is_wrapped = None
 
 -- the text is what an error says: where a function failed, the function's own message, and else any
 abbrev pub Says : Failure → Text → Type 0

@@ -8,8 +8,7 @@
 //! Whoever can write the line can change the decision: a forbid that is left out of it is missed by nobody. So sign it.
 //!
 //! - `whole`: the call. `requests`: what the variables of the request answer. `policies`: what is reported of each
-//!   policy. `errors`: what is told of the errors; `travelled`: what those say that were read. `extensions`: their names.
-//!   `objects`: objects of three members.
+//!   policy. `errors`: what is told of the errors. `extensions`: their names. `objects`: objects of three members.
 //!
 //! The promise: the call states the very JSON, member by member in their order (`response_json` in
 //! `specs/Responses.antt`; clause `written`). Of an error its policy, its kind and what it says are written, and of what
@@ -22,8 +21,6 @@ mod extensions;
 mod objects;
 mod policies;
 mod requests;
-mod travelled;
 mod whole;
 
-pub use travelled::travelled_message;
 pub use whole::whole_response_to_json;

@@ -1,4 +1,3 @@
 mod Composed
 mod Ended
 mod Told
-mod NamesSaid

@@ -1,24 +1,17 @@
 -- What the options say, by what was matched of the words.
-use Rattle.std.specs.Prelude.{◌≡◌, ⊤, ℕ, List, [], ◌∷◌, Bool, true, false, not, Option, Some, None, option_map}
-use Rattle.std.specs.Prelude.{if◌then◌else◌, unwrap_or, ok_or, bytes_eq, codes}
+use Rattle.std.specs.Prelude.{◌≡◌, ℕ, List, [], Bool, true, false, Option, Some, None, if◌then◌else◌, unwrap_or, ok_or, bytes_eq, codes}
 use Rattle.std.specs.Str.Parse.{ParsesUnsigned}
-use Rattle.clap.specs.Words.{matched_of, raw_values, one_text, first_value}
+use Rattle.clap.specs.Words.{one_text, first_value}
 use Rattle.clap.specs.declared.parser.matches.Found.{Found}
 use Rattle.cedar_endpoints.specs.declared.bounds.Bounds.{Bounds}
 use Rattle.cedar_service.specs.declared.ways.RequestEntities.{RequestEntities}
 use Rattle.cedar_service.specs.declared.ways.RequestEntities.TheVariants as brought
 use Rattle.cedar_service.specs.declared.ways.RequestProperties.{RequestProperties}
 use Rattle.cedar_service.specs.declared.ways.RequestProperties.TheVariants as claims
-use Rattle.cedar_serve.specs.declared.refusal.Refusal.{Refusal}
-use Rattle.cedar_serve.specs.declared.refusal.Refusal.TheVariants as refusals
 
 -- the word of an option that must be given
 abbrev pub text_at : Found → List ℕ → List ℕ
 text_at f id = unwrap_or (first_value f id) []
-
--- the words of an option that may be given more than once, of all its uses
-abbrev pub texts_at : Found → List ℕ → List (List ℕ)
-texts_at f id = unwrap_or (option_map raw_values (matched_of f id)) []
 
 -- whether a flag is given
 pub record IsFlag (f : Found) (id : List ℕ) (b : Bool) : Type 0 where
@@ -45,30 +38,6 @@ properties_named t =
 abbrev pub properties_said : Option (List ℕ) → RequestProperties
 properties_said None = claims.None
 properties_said (Some t) = properties_named t
-
--- whether properties are taken of every entity, whatever their names
-abbrev pub are_all_taken : RequestProperties → Bool
-are_all_taken claims.None = false
-are_all_taken claims.Unstored = false
-are_all_taken claims.Beside = true
-are_all_taken claims.Win = true
-
--- whether names of properties have a use: not where all are taken
-abbrev pub have_use : RequestProperties → List (List ℕ) → Bool
-have_use c [] = true
-have_use c (n ∷ ns) = not (are_all_taken c)
-
--- an option is refused, or memory ran out
-abbrev pub IsWrongOption : Refusal → Type 0
-IsWrongOption refusals.Memory = ⊤
-IsWrongOption (refusals.Told t) = ⊥
-IsWrongOption (refusals.WrongOption t) = ⊤
-
--- so it is, and names have no use
-abbrev pub AreRefused : RequestProperties → List (List ℕ) → Refusal → Type 0
-AreRefused c ns refusals.Memory = ⊤
-AreRefused c ns (refusals.Told t) = ⊥
-AreRefused c ns (refusals.WrongOption t) = have_use c ns ≡ false
 
 -- whether entities are taken: none, unless a word says otherwise
 abbrev pub entities_named : List ℕ → RequestEntities

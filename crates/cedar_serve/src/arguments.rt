@@ -1,7 +1,7 @@
 //! The options.
-ghost use Rattle.std.specs.Prelude.{◌≡◌, map, option_map, codes};
+ghost use Rattle.std.specs.Prelude.{◌≡◌, option_map, codes};
 ghost use Rattle.clap.specs.Words.{found_of, first_value};
-ghost use Rattle.cedar_serve.specs.Options.{text_at, texts_at, IsFlag, IsNumber, IsNumberOr, AreBounds};
+ghost use Rattle.cedar_serve.specs.Options.{text_at, IsFlag, IsNumber, IsNumberOr, AreBounds};
 ghost use Rattle.cedar_serve.specs.Options.{properties_said, properties_named, entities_said, entities_named};
 
 use crate::refusal::{Refusal, refuse_with_line};
@@ -50,8 +50,6 @@ pub(crate) struct Options<'a> {
     pub(crate) allows_reload: bool,
     /// Of which entities the properties of an evaluation are taken.
     pub(crate) properties: RequestProperties,
-    /// The names of properties that are taken of every entity.
-    pub(crate) property_names: &'a [&'a str],
     /// Whether a request may bring entities.
     pub(crate) brought: RequestEntities,
     /// How much a request may ask and bring.
@@ -82,7 +80,6 @@ pub(crate) fn command<'a>(alloc: Global) -> Result<Command<'a>, AllocError> {
         )))?
         .arg(flag(alloc, "allow-reload", allow_reload))?
         .arg(request_properties(alloc)?)?
-        .arg(request_property(alloc)?)?
         .arg(request_entities(alloc))?
         .arg(max_request_entities(alloc))?
         .arg(max_request_ancestors(alloc))?
@@ -132,16 +129,6 @@ fn request_properties<'a>(alloc: Global) -> Result<Arg<'a>, AllocError> {
     let option = option(alloc, "request-properties", "ENTITIES", help);
     option
         .value_parser(ValueParser::Names(&PROPERTIES))
-        .conflicts_with("lines")
-}
-
-// The same, and each use has a name.
-fn request_property<'a>(alloc: Global) -> Result<Arg<'a>, AllocError> {
-    let help =
-        "A property that is taken of every entity, beside stored attributes, where not all are; \
-        may be given more than once";
-    option(alloc, "request-property", "NAME", help)
-        .action(ArgAction::Append)
         .conflicts_with("lines")
 }
 
@@ -197,7 +184,7 @@ fn file<'a>(alloc: Global, name: &'a str, help: &'a str) -> Arg<'a> {
 
 /// What the options say, by what was matched of the words; each number and each word that is not given is the one that
 /// stands for it.
-pub(crate) fn options_of<'a>(matches: &'a ArgMatches<'a>) -> Options<'a>
+pub(crate) fn options_of<'a>(matches: &ArgMatches<'a>) -> Options<'a>
     ensures policies { result.policies.now ≡ text_at (found_of matches.now) (codes "policies") }
     ensures entities { result.entities.now ≡ text_at (found_of matches.now) (codes "entities") }
     ensures url { option_map (λ t. t.now) result.url ≡ first_value (found_of matches.now) (codes "url") }
@@ -206,8 +193,6 @@ pub(crate) fn options_of<'a>(matches: &'a ArgMatches<'a>) -> Options<'a>
     ensures reload { IsFlag (found_of matches.now) (codes "allow-reload") result.allows_reload }
     ensures properties { result.properties
         ≡ properties_said (first_value (found_of matches.now) (codes "request-properties")) }
-    ensures property_names { map (λ t. t.now) result.property_names.now
-        ≡ texts_at (found_of matches.now) (codes "request-property") }
     ensures brought { result.brought
         ≡ entities_said (first_value (found_of matches.now) (codes "request-entities")) }
     ensures bounds { AreBounds (found_of matches.now) result.bounds }
@@ -224,7 +209,6 @@ pub(crate) fn options_of<'a>(matches: &'a ArgMatches<'a>) -> Options<'a>
         is_lines: flag_at(matches, "lines"),
         allows_reload: flag_at(matches, "allow-reload"),
         properties: properties_said(matches.get_str("request-properties")),
-        property_names: texts_at(matches, "request-property"),
         brought: entities_said(matches.get_str("request-entities")),
         bounds: bounds_of(matches),
         action_type: matches.get_str("action-type"),
@@ -252,13 +236,6 @@ fn text_at<'a>(matches: &ArgMatches<'a>, id: &str) -> &'a str
         Some(text) => text,
         None => "",
     }
-}
-
-// The words of an option that may be given more than once, of all its uses.
-fn texts_at<'m, 'a>(matches: &'m ArgMatches<'a>, id: &str) -> &'m [&'a str]
-    ensures { map (λ t. t.now) result.now ≡ texts_at (found_of matches.now) id.now }
-{
-    matches.get_strs(id).unwrap_or(&[])
 }
 
 fn flag_at(matches: &ArgMatches<'_>, id: &str) -> bool

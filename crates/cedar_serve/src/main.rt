@@ -2,9 +2,9 @@
 //! on standard input and output, as `socat`, systemd or inetd starts it. `docs/SERVING.md` describes it.
 //!
 //! - `main`: reads the words of the command line and the files, serves, and ends with a status: 0 where the connection is
-//!   done, `REFUSED` where there is none or it breaks, `WRONG_OPTION`, and `OUT_OF_MEMORY`.
-//! - `arguments`: the options. `types`: the type of actions. `property_names`: the names of properties. `files`: the
-//!   files that are named. `serving`: `serve_texts`, the connection from the two texts on. `lines`: `answer_texts`, requests that come a line each.
+//!   done, `REFUSED` where there is none or it breaks, `NO_TYPE`, and `OUT_OF_MEMORY`.
+//! - `arguments`: the options. `types`: the type of actions. `files`: the files that are named. `serving`:
+//!   `serve_texts`, the connection from the two texts on. `lines`: `answer_texts`, requests that come a line each.
 //!   `logging`, `logged_lines`: `log_texts` and `log_answers`, the same with a log. `hosts`: all of it over what
 //!   the system gives. `metadata`: where the endpoints are. `reasons`, `refusal`, `visible`: why there is no
 //!   connection, as it is told on standard error.
@@ -21,7 +21,6 @@ mod lines;
 mod logged_lines;
 mod logging;
 mod metadata;
-mod property_names;
 mod reasons;
 mod refusal;
 mod serving;
@@ -32,7 +31,6 @@ use arguments::{Options, command, options_of, text_of_help};
 use files::{file_text, file_to_append};
 use hosts::{config, log_host, log_lines_host, serve_host};
 use lines::answer_texts;
-use property_names::names_said;
 use reasons::refuse_texts;
 use refusal::{Refusal, refuse_with_line};
 use serving::{Stopped, Texts, texts_of};
@@ -49,8 +47,8 @@ use types::type_said;
 pub const DONE: u8 = 0;
 /// Nothing is served, or the connection broke.
 pub const REFUSED: u8 = 1;
-/// Nothing is served, for what an option says: a type of actions that is no name, or names of properties without use.
-pub const WRONG_OPTION: u8 = 2;
+/// Nothing is served, for the type of actions that an option says is no name.
+pub const NO_TYPE: u8 = 2;
 /// Out of memory.
 pub const OUT_OF_MEMORY: u8 = 3;
 
@@ -66,9 +64,9 @@ fn run<R: Env + Files + Input + AllocGlobal + Print + Eprint + RandomSource>(rt:
             drop(rt.eprint(line.as_str()));
             REFUSED
         }
-        Err(Refusal::WrongOption(line)) => {
+        Err(Refusal::NoType(line)) => {
             drop(rt.eprint(line.as_str()));
-            WRONG_OPTION
+            NO_TYPE
         }
         Err(Refusal::Memory) => {
             drop(rt.eprint("out of memory\n"));
@@ -130,14 +128,12 @@ fn serve_files<R: Files + Input + AllocGlobal + Print + RandomSource>(
     options: Options<'_>,
 ) -> Result<(), Refusal> {
     let action_type = type_said(rt.alloc(), options.action_type)?;
-    let property_names = names_said(rt.alloc(), &options)?;
     let policies = file_text(rt, options.policies)?;
     let entities = file_text(rt, options.entities)?;
     let texts = texts_of(
         &options,
         policies.as_str(),
         entities.as_str(),
-        property_names.as_slice(),
         action_type.as_str(),
     );
     let ended = serve_as(rt, &options, texts)?;

@@ -1,6 +1,5 @@
 //! Why nothing is served.
 ghost use Rattle.std.specs.Prelude.{◌≡◌};
-ghost use Rattle.cedar_serve.specs.Options.{IsWrongOption};
 ghost use Rattle.cedar_serve.specs.declared.refusal.Refusal.TheVariants as refusals;
 
 use crate::visible::visible;
@@ -13,8 +12,8 @@ pub(crate) enum Refusal {
     Memory,
     /// For a reason that is told in these lines, each of which is ended.
     Told(String),
-    /// For what an option says, which the other words let stand; the same.
-    WrongOption(String),
+    /// For the type of actions, which is no name; the same.
+    NoType(String),
 }
 
 impl From<AllocError> for Refusal {
@@ -38,17 +37,6 @@ impl<T: Drop> From<AllocFailed<T>> for Refusal {
 pub(crate) fn refuse_with_line(alloc: Global, reason: Result<String, AllocError>) -> Refusal {
     match end_line(alloc, reason) {
         Ok(line) => Refusal::Told(line),
-        Err(AllocError) => Refusal::Memory,
-    }
-}
-
-/// The refusal of what an option says; the same.
-#[cold]
-pub(crate) fn refuse_option(alloc: Global, reason: Result<String, AllocError>) -> Refusal
-    ensures { IsWrongOption result }
-{
-    match end_line(alloc, reason) {
-        Ok(line) => Refusal::WrongOption(line),
         Err(AllocError) => Refusal::Memory,
     }
 }

@@ -1,6 +1,5 @@
 //! One connection, from the texts of policies and entities on.
-ghost use Rattle.std.specs.Prelude.{◌≡◌, IfOk, IfErr, OnOk, map, option_map, string_bytes};
-ghost use Rattle.std.specs.Rc.{rc_str_bytes};
+ghost use Rattle.std.specs.Prelude.{◌≡◌, IfOk, IfErr, OnOk, option_map, string_bytes};
 ghost use Rattle.std.specs.Io.KnownBytes.{Appends, Consumes};
 ghost use Rattle.http_server.specs.Connection.{config_of, history};
 ghost use Rattle.http_server.specs.History.{IsDone, new_history};
@@ -20,7 +19,6 @@ use std::alloc::{AllocError, Global};
 use std::hash::RandomState;
 use std::io;
 use std::io::{Read, Write};
-use std::rc::RcStr;
 
 /// What decides, as texts, and what is told of it.
 #[derive(Clone, Copy)]
@@ -39,13 +37,11 @@ pub struct Texts<'a> {
     pub ways: Ways<'a>,
 }
 
-/// What is served as the options say, over the texts of the files that they name, with these names of properties and by
-/// the type of actions.
+/// What is served as the options say, over the texts of the files that they name and by the type of actions.
 pub(crate) fn texts_of<'a>(
     options: &Options<'a>,
     policies: &'a str,
     entities: &'a str,
-    property_names: &'a [RcStr],
     action_type: &'a str,
 ) -> Texts<'a>
     ensures policies { result.policies.now ≡ policies.now }
@@ -54,8 +50,7 @@ pub(crate) fn texts_of<'a>(
     ensures page { result.page ≡ options.now.page }
     ensures reload { result.allows_reload ≡ options.now.allows_reload }
     ensures ways { ways_view result.ways
-        ≡ ways_of options.now.properties (map rc_str_bytes property_names.now) options.now.brought options.now.bounds
-        action_type.now }
+        ≡ ways_of options.now.properties options.now.brought options.now.bounds action_type.now }
 {
     Texts {
         policies,
@@ -65,7 +60,6 @@ pub(crate) fn texts_of<'a>(
         allows_reload: options.allows_reload,
         ways: Ways {
             properties: options.properties,
-            property_names,
             entities: options.brought,
             bounds: options.bounds,
             action_type,

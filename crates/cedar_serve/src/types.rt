@@ -1,5 +1,5 @@
 //! The type of the actions.
-use crate::refusal::{Refusal, refuse_option};
+use crate::refusal::{Refusal, refuse_with_line};
 use cedar_text_lexer::errors::ReadError;
 use cedar_text_parser::parse_name;
 use std::alloc::{AllocError, Global};
@@ -24,6 +24,18 @@ fn type_in(alloc: Global, text: &str) -> Result<String, Refusal> {
             Ok(text?)
         }
         Err(ReadError::Memory) => Err(Refusal::Memory),
-        Err(error) => Err(refuse_option(alloc, format!(in alloc; "--action-type: {error}"))),
+        Err(error) => Err(no_type(refuse_with_line(
+            alloc,
+            format!(in alloc; "--action-type: {error}"),
+        ))),
+    }
+}
+
+#[cold]
+fn no_type(refusal: Refusal) -> Refusal {
+    match refusal {
+        Refusal::Told(line) => Refusal::NoType(line),
+        Refusal::NoType(line) => Refusal::NoType(line),
+        Refusal::Memory => Refusal::Memory,
     }
 }

@@ -2,7 +2,7 @@
 -- brought.
 use Rattle.std.proofs.Common.{◌≡◌, Bool, true, false, true≢false, cond, if◌then◌else◌, List, [], ◌∷◌, Option, None, Some, refl, sym, ap, ◌∙◌, subst, codes, Global}
 use Rattle.std.proofs.Common.{Ordering, Less, Equal, Greater}
-use Rattle.std.specs.Prelude.{◌||◌, option_map, IsSomeAnd}
+use Rattle.std.specs.Prelude.{option_map, IsSomeAnd}
 use Rattle.std.specs.BTreeMap.{BTreeMap}
 use Rattle.std.specs.Cmp.Lexicographic.{slice_cmp}
 use Rattle.std.specs.Ordering.{nat_cmp, match_ordering}
@@ -38,7 +38,7 @@ use Rattle.cedar_search.specs.declared.searches.Part.TheVariants as parts
 use Rattle.cedar_search.specs.Found.{HasNothingElseUnknown}
 use Rattle.cedar_service.specs.declared.engine.Engine.{Engine}
 use Rattle.cedar_service.specs.Levels.{levels}
-use Rattle.cedar_service.specs.Ways.{Ways, wins, are_taken}
+use Rattle.cedar_service.specs.Ways.{Ways, wins}
 use Rattle.cedar_service.specs.declared.ways.RequestProperties.{RequestProperties}
 use Rattle.cedar_endpoints.specs.declared.bounds.Bounds.{Bounds}
 use Rattle.cedar_service.specs.declared.ways.RequestEntities.{RequestEntities}
@@ -49,8 +49,7 @@ use Rattle.cedar_service.specs.Standard.{standard_extensions, standard_calls}
 use Rattle.cedar_service.specs.Asked.{is_known_part, has_known_context}
 use Rattle.cedar_service.specs.Brought.{AreBrought, IsBroughtFor, IsBroughtBy, IsOver, HasAdded}
 use Rattle.cedar_service.specs.Decided.{setting_of}
-use Rattle.cedar_service.specs.PropertyNames.{are_named, may_be_laid}
-use Rattle.cedar_service.specs.Properties.{Attributes, HasOneMore, IsLaidOver, beside, alone, is_empty, is_stored, AreLaidUnless, IsWithProperties, IsAskedOver}
+use Rattle.cedar_service.specs.Properties.{Attributes, HasOneMore, IsLaidOver, beside, alone, is_empty, AreLaidUnless, IsWithProperties, IsAskedOver}
 use Rattle.cedar_service.specs.Searched.{opened, question_of}
 use Rattle.cedar_service.specs.Started.{IsStoreFor, with_properties, with_entities as with_brought, IsRequestFor, of_evaluation, of_text}
 
@@ -154,50 +153,43 @@ laid_known wins s n m made (alone free more) h =
       whole = more.partial ∙ h.whole;
     }
 
-unless_known : (b : Bool) (w : Ways) (s : Entities) (Is : EntityName → Type 0) (j : Json) (made : Entities)
-    → AreLaidUnless b standard_extensions standard_calls w s Is j made → IsKnown s → IsKnown made
-unless_known true w s Is j made is h = subst IsKnown (sym is) h
-unless_known false w s Is j made (n, named, (m, are, may, laid)) h = laid_known (wins w.properties) s n m made laid h
+unless_known : (b : Bool) (c : RequestProperties) (s : Entities) (Is : EntityName → Type 0) (j : Json) (made : Entities)
+    → AreLaidUnless b standard_extensions standard_calls c s Is j made → IsKnown s → IsKnown made
+unless_known true c s Is j made is h = subst IsKnown (sym is) h
+unless_known false c s Is j made (n, named, (m, are, taken, laid)) h = laid_known (wins c) s n m made laid h
 
-properties_known : (w : Ways) (s : Entities) (Is : EntityName → Type 0) (o : Option Json) (made : Entities)
-    → IsWithProperties standard_extensions standard_calls w s Is o made → IsKnown s → IsKnown made
-properties_known w s Is None made is h = subst IsKnown (sym is) h
-properties_known w s Is (Some j) made is h = unless_known (is_empty j) w s Is j made is h
+properties_known : (c : RequestProperties) (s : Entities) (Is : EntityName → Type 0) (o : Option Json) (made : Entities)
+    → IsWithProperties standard_extensions standard_calls c s Is o made → IsKnown s → IsKnown made
+properties_known c s Is None made is h = subst IsKnown (sym is) h
+properties_known c s Is (Some j) made is h = unless_known (is_empty j) c s Is j made is h
 
 asked_known : (w : Ways) (s : Entities) (q : Evaluation) (made : Entities)
     → IsAskedOver standard_extensions standard_calls w s q made → IsKnown s → IsKnown made
 asked_known w s q made is h =
-    properties_known w is.others.with_action _ q.properties.resource made is.others.resource
-    (properties_known w is.with_subject _ q.properties.action is.others.with_action is.others.action
-    (properties_known w s _ q.properties.subject is.with_subject is.subject h))
+    properties_known w.properties is.others.with_action _ q.properties.resource made is.others.resource
+    (properties_known w.properties is.with_subject _ q.properties.action is.others.with_action is.others.action
+    (properties_known w.properties s _ q.properties.subject is.with_subject is.subject h))
 
 -- of no entity
 
-none_may_be : (w : Ways) (b : Bool) (j : Json) → w.properties ≡ claims.None → w.property_names ≡ []
-    → may_be_laid w b j ≡ false
-none_may_be w b j none unnamed =
-    ap (λ (c : RequestProperties). are_taken c b || are_named w.property_names j) none
-    ∙ ap (λ (ns : List Text). are_named ns j) unnamed
+unless_untouched : (b : Bool) (s : Entities) (Is : EntityName → Type 0) (j : Json) (made : Entities)
+    → AreLaidUnless b standard_extensions standard_calls claims.None s Is j made → made ≡ s
+unless_untouched true s Is j made is = is
+unless_untouched false s Is j made (n, named, (m, are, taken, laid)) = absurd (true≢false (sym taken))
 
-unless_untouched : (b : Bool) (w : Ways) (s : Entities) (Is : EntityName → Type 0) (j : Json) (made : Entities)
-    → w.properties ≡ claims.None → w.property_names ≡ []
-    → AreLaidUnless b standard_extensions standard_calls w s Is j made → made ≡ s
-unless_untouched true w s Is j made none unnamed is = is
-unless_untouched false w s Is j made none unnamed (n, named, (m, are, may, laid)) =
-    absurd (true≢false (sym may ∙ none_may_be w (is_stored s n) j none unnamed))
-
-none_laid : (w : Ways) (s : Entities) (Is : EntityName → Type 0) (o : Option Json) (made : Entities)
-    → w.properties ≡ claims.None → w.property_names ≡ []
-    → IsWithProperties standard_extensions standard_calls w s Is o made → made ≡ s
-none_laid w s Is None made none unnamed is = is
-none_laid w s Is (Some j) made none unnamed is = unless_untouched (is_empty j) w s Is j made none unnamed is
+none_laid : (c : RequestProperties) (s : Entities) (Is : EntityName → Type 0) (o : Option Json) (made : Entities)
+    → c ≡ claims.None → IsWithProperties standard_extensions standard_calls c s Is o made → made ≡ s
+none_laid c s Is None made none is = is
+none_laid c s Is (Some j) made none is =
+    unless_untouched (is_empty j) s Is j made
+    (subst (λ (d : RequestProperties). AreLaidUnless (is_empty j) standard_extensions standard_calls d s Is j made) none is)
 
 pub asked_untouched : (w : Ways) (s : Entities) (q : Evaluation) (made : Entities) → w.properties ≡ claims.None
-    → w.property_names ≡ [] → IsAskedOver standard_extensions standard_calls w s q made → made ≡ s
-asked_untouched w s q made none unnamed is =
-    none_laid w is.others.with_action _ q.properties.resource made none unnamed is.others.resource
-    ∙ none_laid w is.with_subject _ q.properties.action is.others.with_action none unnamed is.others.action
-    ∙ none_laid w s _ q.properties.subject is.with_subject none unnamed is.subject
+    → IsAskedOver standard_extensions standard_calls w s q made → made ≡ s
+asked_untouched w s q made none is =
+    none_laid w.properties is.others.with_action _ q.properties.resource made none is.others.resource
+    ∙ none_laid w.properties is.with_subject _ q.properties.action is.others.with_action none is.others.action
+    ∙ none_laid w.properties s _ q.properties.subject is.with_subject none is.subject
 
 -- ---- entities that are brought
 

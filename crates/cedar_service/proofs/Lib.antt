@@ -19,5 +19,3 @@ mod Without
 mod Laid
 mod Bounded
 mod Taken
-mod PropertyNames
-mod Rooted

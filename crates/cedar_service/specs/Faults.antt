@@ -1,12 +1,11 @@
 -- Why there is no decision, as it is told.
-use Rattle.std.specs.Prelude.{◌≡◌, ⊤, ◌++◌, [], ◌∷◌, ◌==◌, if◌then◌else◌, codes, string_bytes}
+use Rattle.std.specs.Prelude.{◌≡◌, ⊤, ◌++◌, codes, string_bytes}
 use Rattle.json.specs.Json.{Json, object, member, no_members, string}
 use Rattle.json.specs.Print.{print}
 use Rattle.json.specs.Tree.{json_tokens}
 use Rattle.cedar_model.specs.Terms.{Text}
 use Rattle.cedar_json_reader.specs.declared.errors.JsonError.{JsonError}
 use Rattle.cedar_json_reader.specs.declared.errors.JsonError.TheVariants as errors
-use Rattle.cedar_json_reader.specs.ErrorTexts.{key_text}
 use Rattle.cedar_service.specs.declared.faults.Refusal.{Refusal}
 use Rattle.cedar_service.specs.declared.faults.Refusal.TheVariants as refusals
 
@@ -29,10 +28,6 @@ pub record IsFaultBelow (path : Text) (t : Text) : Type 0 where
   pub reason : Text
   pub told : t ≡ fault_text (path ++ rest) reason
 
--- it is that the member of this key of what stands there is wrong, for this reason
-abbrev pub IsFaultAt : Text → Text → Text → Text → Type 0
-IsFaultAt path key reason t = IsFault (path ++ key_text key) reason t
-
 -- what is told is so; else memory ran out
 abbrev pub IsToldAs : (Text → Type 0) → Refusal → Type 0
 IsToldAs Is refusals.Memory = ⊤
@@ -45,8 +40,3 @@ IsOfJson errors.DuplicateKey = ⊤
 IsOfJson (errors.Refused p r) = ⊤
 IsOfJson (errors.Evaluation p e) = ⊤
 IsOfJson (errors.Memory e) = ⊥
-
--- a path without its `$`; for private clauses
-abbrev pub without_root : Text → Text
-without_root [] = []
-without_root (c ∷ rest) = if c == 36 then rest else c ∷ rest

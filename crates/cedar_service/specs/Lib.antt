@@ -2,7 +2,6 @@ pub mod Standard
 pub mod Faults
 pub mod Levels
 pub mod Ways
-pub mod PropertyNames
 pub mod Documents
 pub mod Asked
 pub mod Brought

@@ -1,6 +1,5 @@
 -- Engines with the texts that they are made of, and what takes the place of one.
-use Rattle.std.specs.Prelude.{◌≡◌, ⊤, Bool, map, codes, string_bytes}
-use Rattle.std.specs.Rc.{rc_str_bytes}
+use Rattle.std.specs.Prelude.{◌≡◌, ⊤, Bool, codes, string_bytes}
 use Rattle.cedar_model.specs.Terms.{Text}
 use Rattle.cedar_endpoints.specs.declared.replies.NotRemade.{NotRemade}
 use Rattle.cedar_endpoints.specs.declared.replies.NotRemade.TheVariants as unmade
@@ -29,7 +28,7 @@ both_texts policies entities w = record { policies = policies; entities = entiti
 abbrev pub texts_view : rust_texts.Texts → Texts
 texts_view t =
     both_texts (string_bytes t.policies) (string_bytes t.entities)
-    (ways_of t.properties (map rc_str_bytes t.property_names.items) t.brings t.bounds (string_bytes t.action_type))
+    (ways_of t.properties t.brings t.bounds (string_bytes t.action_type))
 
 -- what decides
 abbrev pub engine_of : Loaded → Engine

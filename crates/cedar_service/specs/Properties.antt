@@ -25,7 +25,7 @@ use Rattle.cedar_endpoints.specs.Asked.{Named, Evaluation}
 use Rattle.cedar_service.specs.Levels.{levels}
 use Rattle.cedar_service.specs.Faults.{IsFault, IsFaultBelow}
 use Rattle.cedar_service.specs.Ways.{Ways, wins, are_taken}
-use Rattle.cedar_service.specs.PropertyNames.{AreNotNamed, may_be_laid}
+use Rattle.cedar_service.specs.declared.ways.RequestProperties.{RequestProperties}
 use Rattle.cedar_service.specs.Asked.{entity_said, action_named, is_known_part, IsUnnamed, IsNoContext}
 
 -- ---- attributes
@@ -95,19 +95,18 @@ abbrev pub is_stored : Entities → EntityName → Bool
 is_stored s n = is_some ((store_view s).entity n)
 
 -- the store with the attributes of the entity of this name that the JSON says, where such are taken of it
-abbrev pub IsLaidAs : world.Extensions → StoredCalls → Ways → Entities → EntityName → Json → Entities → Type 0
-IsLaidAs X calls w s n j made =
-    (m : Attributes) × AreAttributesOf X calls j m × (may_be_laid w (is_stored s n) j ≡ true)
-    × IsLaidOver (wins w.properties) s n m made
+abbrev pub IsLaidAs : world.Extensions → StoredCalls → RequestProperties → Entities → EntityName → Json → Entities → Type 0
+IsLaidAs X calls c s n j made =
+    (m : Attributes) × AreAttributesOf X calls j m × (are_taken c (is_stored s n) ≡ true) × IsLaidOver (wins c) s n m made
 
--- not all are taken of it, and not each has one of the names; or the JSON says none, or such as are stored
-pub data IsUnlaid (X : world.Extensions) (calls : StoredCalls) (w : Ways) (s : Entities) (n : EntityName)
+-- none are taken of it; or the JSON says none, or such as are stored
+pub data IsUnlaid (X : world.Extensions) (calls : StoredCalls) (c : RequestProperties) (s : Entities) (n : EntityName)
     (j : Json) (path t : Text) : Type 0 where
-  none_taken : are_taken w.properties (is_stored s n) ≡ false → AreNotNamed w.property_names j path t
-      → IsUnlaid X calls w s n j path t
-  no_attributes : AreNoAttributes X calls j path t → IsUnlaid X calls w s n j path t
-  taken : (m : Attributes) → AreAttributesOf X calls j m → AreTaken (wins w.properties) s n m path t
-      → IsUnlaid X calls w s n j path t
+  none_taken : are_taken c (is_stored s n) ≡ false → IsFault path (codes "not taken (--request-properties)") t
+      → IsUnlaid X calls c s n j path t
+  no_attributes : AreNoAttributes X calls j path t → IsUnlaid X calls c s n j path t
+  taken : (m : Attributes) → AreAttributesOf X calls j m → AreTaken (wins c) s n m path t
+      → IsUnlaid X calls c s n j path t
 
 abbrev pub IsNamedAs : Named → EntityName → Type 0
 IsNamedAs q n = entity_said q ≡ Ok n
@@ -121,43 +120,43 @@ is_empty (object no_members) = true
 is_empty other = false
 
 -- the store with these properties of the entity of which this is so
-abbrev pub AreLaid : world.Extensions → StoredCalls → Ways → Entities → (EntityName → Type 0) → Json
+abbrev pub AreLaid : world.Extensions → StoredCalls → RequestProperties → Entities → (EntityName → Type 0) → Json
     → Entities → Type 0
-AreLaid X calls w s Is j made = (n : EntityName) × Is n × IsLaidAs X calls w s n j made
+AreLaid X calls c s Is j made = (n : EntityName) × Is n × IsLaidAs X calls c s n j made
 
 -- properties without a member are none
-abbrev pub AreLaidUnless : Bool → world.Extensions → StoredCalls → Ways → Entities → (EntityName → Type 0)
+abbrev pub AreLaidUnless : Bool → world.Extensions → StoredCalls → RequestProperties → Entities → (EntityName → Type 0)
     → Json → Entities → Type 0
-AreLaidUnless true X calls w s Is j made = made ≡ s
-AreLaidUnless false X calls w s Is j made = AreLaid X calls w s Is j made
+AreLaidUnless true X calls c s Is j made = made ≡ s
+AreLaidUnless false X calls c s Is j made = AreLaid X calls c s Is j made
 
 -- the store with the properties of the entity of which this is so; without any it is the store that stands
-abbrev pub IsWithProperties : world.Extensions → StoredCalls → Ways → Entities → (EntityName → Type 0)
+abbrev pub IsWithProperties : world.Extensions → StoredCalls → RequestProperties → Entities → (EntityName → Type 0)
     → Option Json → Entities → Type 0
-IsWithProperties X calls w s Is None made = made ≡ s
-IsWithProperties X calls w s Is (Some j) made = AreLaidUnless (is_empty j) X calls w s Is j made
+IsWithProperties X calls c s Is None made = made ≡ s
+IsWithProperties X calls c s Is (Some j) made = AreLaidUnless (is_empty j) X calls c s Is j made
 
-abbrev pub AreWrong : world.Extensions → StoredCalls → Ways → Entities → (EntityName → Type 0) → Json
+abbrev pub AreWrong : world.Extensions → StoredCalls → RequestProperties → Entities → (EntityName → Type 0) → Json
     → Text → Text → Type 0
-AreWrong X calls w s Is j path t = (n : EntityName) × Is n × IsUnlaid X calls w s n j path t
+AreWrong X calls c s Is j path t = (n : EntityName) × Is n × IsUnlaid X calls c s n j path t
 
-abbrev pub AreWrongUnless : Bool → world.Extensions → StoredCalls → Ways → Entities
+abbrev pub AreWrongUnless : Bool → world.Extensions → StoredCalls → RequestProperties → Entities
     → (EntityName → Type 0) → Json → Text → Text → Type 0
-AreWrongUnless true X calls w s Is j path t = ⊥
-AreWrongUnless false X calls w s Is j path t = AreWrong X calls w s Is j path t
+AreWrongUnless true X calls c s Is j path t = ⊥
+AreWrongUnless false X calls c s Is j path t = AreWrong X calls c s Is j path t
 
-abbrev pub AreWrongProperties : world.Extensions → StoredCalls → Ways → Entities → (EntityName → Type 0)
+abbrev pub AreWrongProperties : world.Extensions → StoredCalls → RequestProperties → Entities → (EntityName → Type 0)
     → Option Json → Text → Text → Type 0
-AreWrongProperties X calls w s Is None path t = ⊥
-AreWrongProperties X calls w s Is (Some j) path t = AreWrongUnless (is_empty j) X calls w s Is j path t
+AreWrongProperties X calls c s Is None path t = ⊥
+AreWrongProperties X calls c s Is (Some j) path t = AreWrongUnless (is_empty j) X calls c s Is j path t
 
 -- the type is no name, or the properties are wrong
-pub data AreWrongOfNamed (X : world.Extensions) (calls : StoredCalls) (w : Ways) (s : Entities)
+pub data AreWrongOfNamed (X : world.Extensions) (calls : StoredCalls) (c : RequestProperties) (s : Entities)
     (q : Named) (type_path : Text) (o : Option Json) (path t : Text) : Type 0 where
   no_name : IsUnnamed q → IsFault type_path (codes "not a name") t
-      → AreWrongOfNamed X calls w s q type_path o path t
-  wrong : AreWrongProperties X calls w s (IsNamedAs q) o path t
-      → AreWrongOfNamed X calls w s q type_path o path t
+      → AreWrongOfNamed X calls c s q type_path o path t
+  wrong : AreWrongProperties X calls c s (IsNamedAs q) o path t
+      → AreWrongOfNamed X calls c s q type_path o path t
 
 -- ---- the properties of an evaluation
 
@@ -165,33 +164,33 @@ pub data AreWrongOfNamed (X : world.Extensions) (calls : StoredCalls) (w : Ways)
 pub record IsAskedWithAction (X : world.Extensions) (calls : StoredCalls) (w : Ways) (s : Entities) (q : Evaluation)
     (made : Entities) : Type 0 where
   pub with_action : Entities
-  pub action : IsWithProperties X calls w s (IsActionNamed w.action_type q.action) q.properties.action
+  pub action : IsWithProperties X calls w.properties s (IsActionNamed w.action_type q.action) q.properties.action
       with_action
-  pub resource : IsWithProperties X calls w with_action (IsNamedAs q.resource) q.properties.resource made
+  pub resource : IsWithProperties X calls w.properties with_action (IsNamedAs q.resource) q.properties.resource made
 
 -- the store with those of the subject, then of the action, then of the resource
 pub record IsAskedOver (X : world.Extensions) (calls : StoredCalls) (w : Ways) (s : Entities) (q : Evaluation)
     (made : Entities) : Type 0 where
   pub with_subject : Entities
-  pub subject : IsWithProperties X calls w s (IsNamedAs q.subject) q.properties.subject with_subject
+  pub subject : IsWithProperties X calls w.properties s (IsNamedAs q.subject) q.properties.subject with_subject
   pub others : IsAskedWithAction X calls w with_subject q made
 
 -- ---- why there is none
 
 pub data IsActionUnlaid (X : world.Extensions) (calls : StoredCalls) (w : Ways) (s : Entities) (q : Evaluation)
     (t : Text) : Type 0 where
-  of_action : AreWrongProperties X calls w s (IsActionNamed w.action_type q.action) q.properties.action
+  of_action : AreWrongProperties X calls w.properties s (IsActionNamed w.action_type q.action) q.properties.action
       (codes "$.action.properties") t → IsActionUnlaid X calls w s q t
   of_resource : (with_action : Entities)
-      → IsWithProperties X calls w s (IsActionNamed w.action_type q.action) q.properties.action with_action
-      → AreWrongOfNamed X calls w with_action q.resource (codes "$.resource.type") q.properties.resource
+      → IsWithProperties X calls w.properties s (IsActionNamed w.action_type q.action) q.properties.action with_action
+      → AreWrongOfNamed X calls w.properties with_action q.resource (codes "$.resource.type") q.properties.resource
       (codes "$.resource.properties") t → IsActionUnlaid X calls w s q t
 
 -- the properties of the subject are wrong; or, over the store with them, those of the action or of the resource
 pub data AreUnlaid (X : world.Extensions) (calls : StoredCalls) (w : Ways) (s : Entities) (q : Evaluation) (t : Text)
     : Type 0 where
-  of_subject : AreWrongOfNamed X calls w s q.subject (codes "$.subject.type") q.properties.subject
+  of_subject : AreWrongOfNamed X calls w.properties s q.subject (codes "$.subject.type") q.properties.subject
       (codes "$.subject.properties") t → AreUnlaid X calls w s q t
   of_others : (with_subject : Entities)
-      → IsWithProperties X calls w s (IsNamedAs q.subject) q.properties.subject with_subject
+      → IsWithProperties X calls w.properties s (IsNamedAs q.subject) q.properties.subject with_subject
       → IsActionUnlaid X calls w with_subject q t → AreUnlaid X calls w s q t

@@ -1,5 +1,5 @@
 -- What an engine is made of, and why none is.
-use Rattle.std.specs.Prelude.{◌≡◌, ◌↔◌, ⊤, Bool, true, false, List, [], ◌∷◌}
+use Rattle.std.specs.Prelude.{◌≡◌, ◌↔◌, ⊤, Bool, true, false, List, ◌∷◌}
 use Rattle.cedar_model.specs.Terms.{Text, EntityName}
 use Rattle.cedar_model.specs.Values.{AbstractValue}
 use Rattle.cedar_model.specs.World as world
@@ -118,10 +118,10 @@ SearchesTheKnown e =
     → HasNothingElseUnknown
     (question_of standard_extensions standard_calls e s part (opened part (request_view r)))
 
--- where properties are taken of no entity, and none for its name, an evaluation is decided over the engine's own store
+-- where properties are taken of no entity, an evaluation is decided over the engine's own store
 abbrev pub LeavesUntouched : Engine → Type 0
 LeavesUntouched e =
-    (w : Ways) (q : Evaluation) (s : Entities) → w.properties ≡ claims.None → w.property_names ≡ []
+    (w : Ways) (q : Evaluation) (s : Entities) → w.properties ≡ claims.None
     → IsAskedOver standard_extensions standard_calls w (entities_of e) q s → s ≡ entities_of e
 
 -- where a request may bring no entities, it is decided over the engine's own store

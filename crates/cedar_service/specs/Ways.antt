@@ -1,6 +1,5 @@
 -- How requests are taken.
-use Rattle.std.specs.Prelude.{Bool, true, false, not, List, map}
-use Rattle.std.specs.Rc.{rc_str_bytes}
+use Rattle.std.specs.Prelude.{Bool, true, false, not}
 use Rattle.cedar_model.specs.Terms.{Text}
 use Rattle.cedar_endpoints.specs.declared.bounds.Bounds.{Bounds}
 use Rattle.cedar_service.specs.declared.ways.RequestEntities.{RequestEntities}
@@ -22,17 +21,16 @@ are_taken claims.Unstored is_stored = not is_stored
 are_taken claims.Beside is_stored = true
 are_taken claims.Win is_stored = true
 
--- of which entities properties are taken, and the names of those that are taken of every one; whether a request may
--- bring entities; how much one may ask and bring; and the type of the actions, of which an evaluation has the ids alone
+-- of which entities properties are taken; whether a request may bring entities; how much one may ask and bring; and the
+-- type of the actions, of which an evaluation has the ids alone
 pub record Ways : Type 0 where
   pub properties : RequestProperties
-  pub property_names : List Text
   pub entities : RequestEntities
   pub bounds : Bounds
   pub action_type : Text
 
-abbrev pub ways_of : RequestProperties → List Text → RequestEntities → Bounds → Text → Ways
-ways_of c ns e b ty = record { properties = c; property_names = ns; entities = e; bounds = b; action_type = ty }
+abbrev pub ways_of : RequestProperties → RequestEntities → Bounds → Text → Ways
+ways_of c e b ty = record { properties = c; entities = e; bounds = b; action_type = ty }
 
 abbrev pub ways_view : rust_ways.Ways → Ways
-ways_view w = ways_of w.properties (map rc_str_bytes w.property_names.now) w.entities w.bounds w.action_type.now
+ways_view w = ways_of w.properties w.entities w.bounds w.action_type.now

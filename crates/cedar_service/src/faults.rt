@@ -3,10 +3,7 @@
 ghost use Rattle.std.specs.Prelude.{◌≡◌, ◌∷◌, [], ◌++◌, codes, IfOk, OnOk, string_bytes};
 ghost use Rattle.json.specs.Json.{string};
 ghost use Rattle.cedar_json_writer.specs.Trees.{json_view, members_seen};
-ghost use Rattle.cedar_json_reader.specs.ErrorTexts.{path_text};
-ghost use Rattle.cedar_json_reader.specs.Paths.{step_view};
-ghost use Rattle.cedar_service.specs.Faults.{fault_json, fault_text, without_root};
-ghost use Rattle.cedar_service.specs.Faults.{IsFault, IsFaultBelow, IsFaultAt, IsToldAs, IsOfJson};
+ghost use Rattle.cedar_service.specs.Faults.{fault_json, fault_text, IsFault, IsFaultBelow, IsToldAs, IsOfJson};
 
 use cedar_errors::evaluator::err::EvaluationError;
 use cedar_fallible::add_last;
@@ -91,26 +88,6 @@ pub(crate) fn refuse_at_key(alloc: Global, path: &str, key: &RcStr, reason: &str
     }
 }
 
-/// The refusal of the member of this key of what stands at this path, exactly there.
-#[cold]
-pub(crate) fn refuse_member(alloc: Global, path: &str, key: &str, reason: &str) -> Refusal
-    ensures { IsToldAs (IsFaultAt path.now key.now reason.now) result }
-{
-    match member_fault(alloc, path, key, reason) {
-        Ok(text) => Refusal::Told(text),
-        Err(AllocError) => Refusal::Memory,
-    }
-}
-
-fn member_fault(alloc: Global, path: &str, key: &str, reason: &str) -> Result<String, AllocError>
-    ensures { IfOk result (λ s. IsFaultAt path.now key.now reason.now (string_bytes s)) }
-{
-    let key = RcStr::from_str(alloc, key)?;
-    let part = step_text(alloc, PathStep::Key(key))?;
-    let place = join(alloc, path, steps_of(part.as_str()))?;
-    fault_text(alloc, place.as_str(), reason)
-}
-
 /// The refusal of the element of this index of what stands at this path.
 #[cold]
 pub(crate) fn refuse_at_index(alloc: Global, path: &str, index: usize, reason: &str) -> Refusal
@@ -139,9 +116,7 @@ fn step_fault(alloc: Global, path: &str, step: PathStep, reason: &str) -> Result
     fault_below(alloc, path, steps_of(part.as_str()), reason)
 }
 
-fn step_text(alloc: Global, step: PathStep) -> Result<String, AllocError>
-    ensures { IfOk result (λ s. string_bytes s ≡ path_text (step_view step ∷ [])) }
-{
+fn step_text(alloc: Global, step: PathStep) -> Result<String, AllocError> {
     let mut steps: Vec<PathStep> = Vec::new(alloc);
     add_last(&mut steps, step)?;
     let part = JsonPath { steps };
@@ -210,13 +185,8 @@ fn evaluation_fault(
 }
 
 // What stands in a path behind its `$`.
-fn steps_of(path: &str) -> &str
-    ensures { result.now ≡ without_root path.now }
-{
-    match path.strip_prefix("$") {
-        Some(steps) => steps,
-        None => path,
-    }
+fn steps_of(path: &str) -> &str {
+    path.strip_prefix("$").unwrap_or(path)
 }
 
 // That something is wrong behind these steps from this path.

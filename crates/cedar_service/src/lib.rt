@@ -7,9 +7,8 @@
 //! - `searching`: what a search finds. `opened`: the request in which a part is searched for. `found`: what is found, as
 //!   JSON. `versions`: the version of what is decided and found.
 //! - `partials`, `leaving`: the request of which parts may be unknown, and what is left of the policies for it.
-//! - `properties`, `brought`: attributes and entities that a request brings, over those that are stored.
-//!   `property_names`: names of properties that are taken of every entity. `documents`: the JSON of a request, and texts
-//!   of its parts.
+//! - `properties`, `brought`: attributes and entities that a request brings, over those that are stored. `documents`: the
+//!   JSON of a request, and texts of its parts.
 //! - `loaded`: an engine with its texts, of which one can be replaced. `reasons`: what is wrong with policies.
 //! - `faults`: why there is no decision. `serving`: one connection.
 //!
@@ -36,7 +35,6 @@ mod names;
 mod opened;
 mod partials;
 mod properties;
-mod property_names;
 mod reasons;
 mod requests;
 mod responses;

@@ -8,7 +8,6 @@ ghost use Rattle.cedar_service.specs.Ways.{ways_view};
 
 use crate::engine::{Engine, NotStarted};
 use crate::faults::{Refusal, refuse_below, refuse_json};
-use crate::property_names::copied_names;
 use crate::reasons::policies_reason;
 use crate::ways::{RequestEntities, RequestProperties, Ways};
 use cedar_endpoints::{Bounds, NotRemade, Replaced};
@@ -16,7 +15,6 @@ use cedar_hierarchy::ClosureError;
 use cedar_names::FirstRest;
 use cedar_text_parser::ParseError;
 use std::alloc::{AllocError, Global};
-use std::rc::RcStr;
 
 // What an engine is made of.
 #[derive(Drop)]
@@ -27,8 +25,6 @@ pub(crate) struct Texts {
     pub(crate) entities: String,
     // Of which entities the properties of an evaluation are taken.
     pub(crate) properties: RequestProperties,
-    // The names of those that are taken of every entity.
-    pub(crate) property_names: Vec<RcStr>,
     // Whether a request may bring entities.
     pub(crate) brings: RequestEntities,
     // How much a request may ask and bring.
@@ -82,7 +78,6 @@ pub(crate) fn ways_of(texts: &Texts) -> Ways<'_>
 {
     Ways {
         properties: texts.properties,
-        property_names: texts.property_names.as_slice(),
         entities: texts.brings,
         bounds: texts.bounds,
         action_type: texts.action_type.as_str(),
@@ -119,12 +114,10 @@ fn copied(
     let policies = String::from_str(alloc, policies)?;
     let entities = String::from_str(alloc, entities)?;
     let action_type = String::from_str(alloc, ways.action_type)?;
-    let property_names = copied_names(alloc, ways.property_names)?;
     Ok(Texts {
         policies,
         entities,
         properties: ways.properties,
-        property_names,
         brings: ways.entities,
         bounds: ways.bounds,
         action_type,

@@ -14,14 +14,12 @@ ghost use Rattle.cedar_service.specs.Properties.{AreAttributesOf, IsLaidOver, Is
 ghost use Rattle.cedar_service.specs.Properties.{IsNamedAs, IsActionNamed, IsWithProperties, AreWrongProperties};
 ghost use Rattle.cedar_service.specs.Properties.{AreWrongOfNamed, IsAskedWithAction, IsActionUnlaid, AreNoAttributes};
 ghost use Rattle.cedar_service.specs.Properties.{is_empty, AreLaid, AreWrong, is_stored};
-ghost use Rattle.cedar_service.specs.PropertyNames.{may_be_laid};
 ghost use Rattle.cedar_service.specs.Ways.{ways_view, are_taken};
 ghost use Rattle.cedar_service.specs.Properties.{IsNotKnown, AreTaken, IsOfAttributes, HasOneMore};
 
 use crate::contexts::context_in;
 use crate::faults::{Refusal, refuse, refuse_at_key, refuse_below};
 use crate::names::{action_of, entity_of};
-use crate::property_names::check_names;
 use crate::ways::{RequestProperties, Ways};
 use cedar_endpoints::{Evaluation, Named};
 use cedar_extensions::Extensions;
@@ -42,8 +40,8 @@ type Attributes = BTreeMap<RcStr, CedarValue>;
 /// The store with the properties of the evaluation, if it has some: those of the subject, then those of the action,
 /// then those of the resource, each as attributes of its entity. An entity that is not stored is added with these
 /// alone. Properties without a member are none. Refuses the first of these: properties of an entity of which none are
-/// taken, or, where names of some are said, the first that has none of these; such as are no record of known values;
-/// and, unless they win, one of the name of an attribute that the entity has.
+/// taken, such as are no record of known values, and, unless they win, one of the name of an attribute that the entity
+/// has.
 pub(crate) fn laid_over(
     alloc: Global,
     stored: &Entities,
@@ -64,7 +62,7 @@ pub(crate) fn laid_over(
         "$.subject.type",
         question.properties.subject,
         "$.subject.properties",
-        ways,
+        ways.properties,
         extensions,
     ) {
         Ok(laid) => with_action(alloc, stored, laid, question, ways, extensions),
@@ -103,7 +101,7 @@ fn with_action(
             "$.resource.type",
             question.properties.resource,
             "$.resource.properties",
-            ways,
+            ways.properties,
             extensions,
         ),
         Err(refusal) => Err(refusal),
@@ -122,11 +120,11 @@ fn with_properties_of_action(
     extensions: &Extensions<'_>,
 ) -> Result<Option<Entities>, Refusal>
     ensures laid { IfOk result (λ o. IsWithProperties (extensions_view extensions.now) (calls_of extensions.now)
-        (ways_view ways.entry) (laid_or stored.now laid) (IsActionNamed ways.entry.action_type.now name.now)
+        ways.entry.properties (laid_or stored.now laid) (IsActionNamed ways.entry.action_type.now name.now)
         (option_map (λ v. value_view v.now) given.entry)
         (laid_or stored.now o)) }
     ensures refused { IfErr result (IsToldAs (AreWrongProperties (extensions_view extensions.now)
-        (calls_of extensions.now) (ways_view ways.entry) (laid_or stored.now laid)
+        (calls_of extensions.now) ways.entry.properties (laid_or stored.now laid)
         (IsActionNamed ways.entry.action_type.now name.now)
         (option_map (λ v. value_view v.now) given.entry)
         (codes "$.action.properties"))) }
@@ -165,10 +163,10 @@ fn lay_action(
     extensions: &Extensions<'_>,
 ) -> Result<Option<Entities>, Refusal>
     ensures laid { IfOk result (λ o. AreLaid (extensions_view extensions.now) (calls_of extensions.now)
-        (ways_view ways.entry) (laid_or stored.now laid) (IsActionNamed ways.entry.action_type.now name.now)
+        ways.entry.properties (laid_or stored.now laid) (IsActionNamed ways.entry.action_type.now name.now)
         (value_view given.now) (laid_or stored.now o)) }
     ensures refused { IfErr result (IsToldAs (AreWrong (extensions_view extensions.now)
-        (calls_of extensions.now) (ways_view ways.entry) (laid_or stored.now laid)
+        (calls_of extensions.now) ways.entry.properties (laid_or stored.now laid)
         (IsActionNamed ways.entry.action_type.now name.now) (value_view given.now)
         (codes "$.action.properties"))) }
 {
@@ -180,7 +178,7 @@ fn lay_action(
             uid,
             given,
             "$.action.properties",
-            ways,
+            ways.properties,
             extensions,
         ),
         Err(AllocError) => {
@@ -199,14 +197,14 @@ fn with_named(
     type_path: &str,
     given: Option<&Value<'_>>,
     path: &str,
-    ways: Ways<'_>,
+    claims: RequestProperties,
     extensions: &Extensions<'_>,
 ) -> Result<Option<Entities>, Refusal>
     ensures laid { IfOk result (λ o. IsWithProperties (extensions_view extensions.now) (calls_of extensions.now)
-        (ways_view ways.entry) (laid_or stored.now laid) (IsNamedAs (named_view named.entry))
+        claims (laid_or stored.now laid) (IsNamedAs (named_view named.entry))
         (option_map (λ v. value_view v.now) given.entry) (laid_or stored.now o)) }
     ensures refused { IfErr result (IsToldAs (AreWrongOfNamed (extensions_view extensions.now) (calls_of extensions.now)
-        (ways_view ways.entry) (laid_or stored.now laid) (named_view named.entry) type_path.now
+        claims (laid_or stored.now laid) (named_view named.entry) type_path.now
         (option_map (λ v. value_view v.now) given.entry) path.now)) }
 {
     match given {
@@ -214,7 +212,7 @@ fn with_named(
             Ok(laid)
         } else {
             lay_named(
-                alloc, stored, laid, named, type_path, given, path, ways, extensions,
+                alloc, stored, laid, named, type_path, given, path, claims, extensions,
             )
         },
         None => Ok(laid),
@@ -229,19 +227,19 @@ fn lay_named(
     type_path: &str,
     given: &Value<'_>,
     path: &str,
-    ways: Ways<'_>,
+    claims: RequestProperties,
     extensions: &Extensions<'_>,
 ) -> Result<Option<Entities>, Refusal>
     requires { is_empty (value_view given.now) ≡ false }
     ensures laid { IfOk result (λ o. AreLaid (extensions_view extensions.now) (calls_of extensions.now)
-        (ways_view ways.entry) (laid_or stored.now laid) (IsNamedAs (named_view named.entry)) (value_view given.now)
+        claims (laid_or stored.now laid) (IsNamedAs (named_view named.entry)) (value_view given.now)
         (laid_or stored.now o)) }
     ensures refused { IfErr result (IsToldAs (AreWrongOfNamed (extensions_view extensions.now) (calls_of extensions.now)
-        (ways_view ways.entry) (laid_or stored.now laid) (named_view named.entry) type_path.now
-        (Some (value_view given.now)) path.now)) }
+        claims (laid_or stored.now laid) (named_view named.entry) type_path.now (Some (value_view given.now))
+        path.now)) }
 {
     match entity_of(alloc, named, type_path) {
-        Ok(uid) => lay_over(alloc, stored, laid, uid, given, path, ways, extensions),
+        Ok(uid) => lay_over(alloc, stored, laid, uid, given, path, claims, extensions),
         Err(refusal) => {
             drop(laid);
             Err(refusal)
@@ -259,13 +257,13 @@ fn lay_over(
     uid: EntityUID,
     given: &Value<'_>,
     path: &str,
-    ways: Ways<'_>,
+    claims: RequestProperties,
     extensions: &Extensions<'_>,
 ) -> Result<Option<Entities>, Refusal>
     ensures laid { IfOk result (λ o. IsLaidAs (extensions_view extensions.now) (calls_of extensions.now)
-        (ways_view ways.entry) (laid_or stored.now laid) (uid_name uid) (value_view given.now) (laid_or stored.now o)) }
+        claims (laid_or stored.now laid) (uid_name uid) (value_view given.now) (laid_or stored.now o)) }
     ensures refused { IfErr result (IsToldAs (IsUnlaid (extensions_view extensions.now) (calls_of extensions.now)
-        (ways_view ways.entry) (laid_or stored.now laid) (uid_name uid) (value_view given.now) path.now)) }
+        claims (laid_or stored.now laid) (uid_name uid) (value_view given.now) path.now)) }
 {
     let made = lay(
         alloc,
@@ -273,7 +271,7 @@ fn lay_over(
         uid,
         given,
         path,
-        ways,
+        claims,
         extensions,
     );
     drop(laid);
@@ -299,43 +297,19 @@ fn lay(
     uid: EntityUID,
     given: &Value<'_>,
     path: &str,
-    ways: Ways<'_>,
+    claims: RequestProperties,
     extensions: &Extensions<'_>,
 ) -> Result<Entities, Refusal>
     ensures laid { IfOk result (IsLaidAs (extensions_view extensions.now) (calls_of extensions.now)
-        (ways_view ways.entry) store.now (uid_name uid) (value_view given.now)) }
+        claims store.now (uid_name uid) (value_view given.now)) }
     ensures refused { IfErr result (IsToldAs (IsUnlaid (extensions_view extensions.now) (calls_of extensions.now)
-        (ways_view ways.entry) store.now (uid_name uid) (value_view given.now) path.now)) }
+        claims store.now (uid_name uid) (value_view given.now) path.now)) }
 {
-    if is_taken(ways.properties, store, &uid) {
-        lay_taken(alloc, store, uid, given, path, ways, extensions)
+    if is_taken(claims, store, &uid) {
+        lay_taken(alloc, store, uid, given, path, claims, extensions)
     } else {
-        lay_by_name(alloc, store, uid, given, path, ways, extensions)
-    }
-}
-
-// Of an entity of which not all are taken: those that each have one of the names.
-fn lay_by_name(
-    alloc: Global,
-    store: &Entities,
-    uid: EntityUID,
-    given: &Value<'_>,
-    path: &str,
-    ways: Ways<'_>,
-    extensions: &Extensions<'_>,
-) -> Result<Entities, Refusal>
-    requires { are_taken ways.properties (is_stored store.now (uid_name uid)) ≡ false }
-    ensures laid { IfOk result (IsLaidAs (extensions_view extensions.now) (calls_of extensions.now)
-        (ways_view ways.entry) store.now (uid_name uid) (value_view given.now)) }
-    ensures refused { IfErr result (IsToldAs (IsUnlaid (extensions_view extensions.now) (calls_of extensions.now)
-        (ways_view ways.entry) store.now (uid_name uid) (value_view given.now) path.now)) }
-{
-    match check_names(alloc, ways.property_names, given, path) {
-        Ok(()) => lay_taken(alloc, store, uid, given, path, ways, extensions),
-        Err(refusal) => {
-            drop(uid);
-            Err(refusal)
-        }
+        drop(uid);
+        Err(refuse(alloc, path, "not taken (--request-properties)"))
     }
 }
 
@@ -345,17 +319,17 @@ fn lay_taken(
     uid: EntityUID,
     given: &Value<'_>,
     path: &str,
-    ways: Ways<'_>,
+    claims: RequestProperties,
     extensions: &Extensions<'_>,
 ) -> Result<Entities, Refusal>
-    requires { may_be_laid (ways_view ways) (is_stored store.now (uid_name uid)) (value_view given.now) ≡ true }
+    requires { are_taken claims (is_stored store.now (uid_name uid)) ≡ true }
     ensures laid { IfOk result (IsLaidAs (extensions_view extensions.now) (calls_of extensions.now)
-        (ways_view ways.entry) store.now (uid_name uid) (value_view given.now)) }
+        claims store.now (uid_name uid) (value_view given.now)) }
     ensures refused { IfErr result (IsToldAs (IsUnlaid (extensions_view extensions.now) (calls_of extensions.now)
-        (ways_view ways.entry) store.now (uid_name uid) (value_view given.now) path.now)) }
+        claims store.now (uid_name uid) (value_view given.now) path.now)) }
 {
     match attributes_of(alloc, given, path, extensions) {
-        Ok(attributes) => put(alloc, store, uid, attributes, path, ways.properties.wins()),
+        Ok(attributes) => put(alloc, store, uid, attributes, path, claims.wins()),
         Err(refusal) => {
             drop(uid);
             Err(refusal)
@@ -363,7 +337,7 @@ fn lay_taken(
     }
 }
 
-// Whether properties of any name are taken of this entity.
+// Whether properties are taken of this entity.
 fn is_taken(claims: RequestProperties, store: &Entities, uid: &EntityUID) -> bool
     ensures { result ≡ are_taken claims (is_stored store.now (uid_name uid.now)) }
 {

@@ -1,6 +1,5 @@
 //! How requests are taken.
 use cedar_endpoints::Bounds;
-use std::rc::RcStr;
 
 /// Of which entities an evaluation's properties are taken, as attributes. Properties without a member are none.
 #[derive(Clone, Copy)]
@@ -46,9 +45,6 @@ pub enum RequestEntities {
 pub struct Ways<'t> {
     /// Of which entities the properties of an evaluation are taken.
     pub properties: RequestProperties,
-    /// The names of properties that are taken of every entity. Of one of which `properties` takes none they are taken
-    /// as with `Beside`, and any other is refused; with `Beside` and `Win`, which take all, names add nothing.
-    pub property_names: &'t [RcStr],
     /// Whether entities are taken.
     pub entities: RequestEntities,
     /// How much is taken, and looked at.

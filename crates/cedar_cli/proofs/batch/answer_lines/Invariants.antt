@@ -1,4 +1,4 @@
-use Rattle.std.proofs.Common.{◌≡◌, ◌+◌, map, drop}
+use Rattle.std.proofs.Common.{◌+◌, map, drop}
 use Rattle.cedar_extensions.specs.Extensions.{extensions_view, calls_of}
 use Rattle.cedar_cli.specs.Authorized.{IsAnsweredOver}
 use Rattle.cedar_cli.specs.Reasons.{IsRequestUnread}
@@ -14,4 +14,3 @@ invariant-lines g l =
     b.entities.now r b.deciding.way)
     (IsRequestUnread (extensions_view x) (calls_of x)) b.asked.now (map (λ t. t.now) l.fn.lines)
     (map (λ t. t.now) (drop l.i l.fn.lines)) (l.i + 1) l.printed
-    × (l.printed.warnings ≡ l.fn.warnings)

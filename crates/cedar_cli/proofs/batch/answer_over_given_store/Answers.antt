@@ -4,5 +4,5 @@ pub returns-clause-answered : goal.returns-clause-answered
 returns-clause-answered g c = record {
   entities = c.in_ok-store.store.entities;
   store_is = c.in_ok-store.ensures.given;
-  answered = c.in_ok-printed.ensures.answered;
+  answered = c.in_ok-printed.ensures;
 }

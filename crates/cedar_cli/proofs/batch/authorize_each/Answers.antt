@@ -1,4 +1,4 @@
-use Rattle.std.proofs.Common.{subst, string_bytes}
+use Rattle.std.proofs.Common.{subst}
 use Rattle.std.specs.Str.Lines.{lines}
 use Rattle.cedar_model.specs.Agreement.{AgreesWithFunctions}
 use Rattle.cedar_extensions.specs.Extensions.{extensions_view, calls_of}
@@ -14,7 +14,6 @@ use Rattle.cedar_cli.proofs.Batching.{answered_of, authorized_alone}
 use Rattle.cedar_cli.proofs.Composed.{of_ok, of_err}
 use Rattle.cedar_cli.proofs.Lined.{one_line_each}
 use Rattle.cedar_cli.proofs.Reasoned.{because}
-use Rattle.cedar_cli.specs.Warned.{AreNotices, AreTemplatesReported, template_notices}
 use Rattle.cedar_cli.proofs.batch.authorize_each.Goals as goal
 
 pub returns-clause-answered : goal.returns-clause-answered
@@ -66,18 +65,3 @@ returns-clause-refused c =
     (subst (λ calls. IsKnownStoreUnread standard_extensions calls q.entities q.max_ancestors) (calls_alone x none there)
     (subst (λ v. IsKnownStoreUnread v (calls_of x) q.entities q.max_ancestors) (view_alone x none there) h))) r)
     c.answer_parsed-printed.result c.answer_parsed-printed.ensures.refused
-
-pub returns-clause-warned : goal.returns-clause-warned
-returns-clause-warned c =
-    let x = c.all_available-extensions.result in
-    let none = c.all_available-extensions.ensures.extensions in
-    let there = c.all_available-extensions.ensures.standard in
-    let parsed = c.in_ok-parsed.parsed in
-    let s = c.args.policies in
-    of_ok (λ p. AreNotices (template_notices s parsed.templates.items) (string_bytes p.warnings)) (AreTemplatesReported s)
-    (λ p h. record {
-      parsed = parsed;
-      policies_are = subst (λ k. AreAllRead k s.text.now levels parsed) (known_alone x none there) c.in_ok-parsed.ensures.read;
-      warnings_are = h;
-    })
-    c.answer_parsed-printed.result c.answer_parsed-printed.ensures.warned

@@ -6,17 +6,5 @@ returns-clause-answered g c = record {
   response = c.in_ok-response.response;
   request_is = c.in_ok-request.ensures.asked;
   response_is = c.in_ok-response.ensures;
-  printed = c.in_ok-printed.ensures.printed;
-}
-
-pub returns-clause-reported : goal.returns-clause-reported
-returns-clause-reported g c = record {
-  answered = record {
-    request = c.in_ok-request.request;
-    response = c.in_ok-response.response;
-    request_is = c.in_ok-request.ensures.asked;
-    response_is = c.in_ok-response.ensures;
-    printed = c.in_ok-printed.ensures.printed;
-  };
-  warned = c.in_ok-printed.ensures.warned;
+  printed = c.in_ok-printed.ensures;
 }

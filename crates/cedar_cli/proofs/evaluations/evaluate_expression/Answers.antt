@@ -12,10 +12,6 @@ use Rattle.cedar_cli.proofs.Composed.{of_ok, of_err, handed_up}
 use Rattle.cedar_cli.proofs.Reasoned.{because}
 use Rattle.cedar_cli.proofs.evaluations.evaluate_expression.Goals as goal
 
-pub evaluated_with-value-requires : goal.evaluated_with-value-requires
-evaluated_with-value-requires c =
-    c.standard_answers_are_low.ensures.alone c.all_available-extensions.ensures.extensions
-
 pub returns-clause-answered : goal.returns-clause-answered
 returns-clause-answered c =
     let x = c.all_available-extensions.result in

@@ -4,35 +4,27 @@ use Rattle.cedar_errors.specs.Failures.{failure_of}
 use Rattle.cedar_errors.specs.Answers.{value_answer}
 use Rattle.cedar_extensions.specs.Extensions.{extensions_view, calls_of}
 use Rattle.cedar_cli.specs.Evaluated.{IsAnswerBy, IsUnvaluedOver, for_error}
-use Rattle.cedar_cli.proofs.Enough.{answered_over}
 use Rattle.cedar_cli.proofs.Reasoned.{because}
 use Rattle.cedar_cli.proofs.evaluations.evaluated_over.Goals as goal
-
-pub returns-in-Ok-clause-value : goal.returns-in-Ok-clause-value
-returns-in-Ok-clause-value g c =
-    let x = c.args.extensions.now in
-    let s = c.args.store.now in
-    let r = c.in_ok-request.request in
-    let n = c.limit_or-within.result in
-    answered_over (extensions_view x) (calls_of x) c.args.expr.now s c.args.asked.now c.args.limit r n _ c.requires.low
-    c.requires.height c.in_ok-request.ensures.asked c.limit_or-within.ensures
-    (subst (λ v. IsAnswerBy (extensions_view x) (calls_of x) c.args.expr.now s.entities r n (value_answer v)) c.in-Ok.is
-    c.value_of.ensures)
 
 pub returns-in-Err-clause-refused : goal.returns-in-Err-clause-refused
 returns-in-Err-clause-refused g c =
     let x = c.args.extensions.now in
-    let s = c.args.store.now in
+    let s = c.args.store.now.entities in
     let r = c.in_ok-request.request in
     let n = c.limit_or-within.result in
-    let answer = subst (λ v. IsAnswerBy (extensions_view x) (calls_of x) c.args.expr.now s.entities r n (value_answer v))
-    c.in-Err.is c.value_of.ensures in
+    let answer = subst (λ v. IsAnswerBy (extensions_view x) (calls_of x) c.args.expr.now s r n (value_answer v)) c.in-Err.is c.value_of.ensures in
     because (failure_of c.in-Err.error ≢ out_of_memory)
-    (IsUnvaluedOver (extensions_view x) (calls_of x) c.args.expr.now s.entities c.args.asked.now c.args.limit)
+    (IsUnvaluedOver (extensions_view x) (calls_of x) c.args.expr.now s c.args.asked.now c.args.limit)
     (λ final. for_error (record {
       error = failure_of c.in-Err.error;
       is_final = final;
-      answer = answered_over (extensions_view x) (calls_of x) c.args.expr.now s c.args.asked.now c.args.limit r n _
-          c.requires.low c.requires.height c.in_ok-request.ensures.asked c.limit_or-within.ensures answer;
+      answer = record {
+        request = r;
+        within = n;
+        request_is = c.in_ok-request.ensures.asked;
+        limit_is = c.limit_or-within.ensures;
+        answer_is = answer;
+      };
     }))
     c.refuse_evaluation.result c.refuse_evaluation.ensures

@@ -1,13 +1,11 @@
-use Rattle.std.proofs.Common.{◌≡◌, ◌∙◌, sym, subst, false, Option, Some, None, Result, IfOk}
+use Rattle.std.proofs.Common.{◌≡◌, sym, subst, false, Option, Some, None, Result, IfOk}
 use Rattle.cedar_model.specs.Agreement.{IsValue, EachStored}
 use Rattle.cedar_extensions.specs.Extensions.{extensions_view, calls_of}
 use Rattle.cedar_layers.specs.Stores.{no_entities, store_view}
 use Rattle.cedar_cli.specs.declared.asked.Source.{Source}
 use Rattle.cedar_cli.specs.declared.stores.Store.{Store}
-use Rattle.cedar_cli.specs.Evaluated.{IsOfHeight}
 use Rattle.cedar_cli.specs.Questions.{IsStoreSaid, IsKnownStoreOf}
 use Rattle.cedar_cli.proofs.Composed.{of_ok, of_two}
-use Rattle.cedar_cli.proofs.Enough.{no_height, none_capped}
 use Rattle.cedar_cli.proofs.KnownStores.{said_known, none_known}
 use Rattle.cedar_cli.proofs.stores.known_store.Goals as goal
 
@@ -35,20 +33,3 @@ returns-in-None-clause-given g c =
     (λ s. IsKnownStoreOf (extensions_view x) (calls_of x) None s.entities)
     (λ s is. none_known (extensions_view x) (calls_of x) s.entities is)
     c.no_entities.result c.no_entities.ensures.given)
-
-pub returns-in-Some-clause-height : goal.returns-in-Some-clause-height
-returns-in-Some-clause-height g c =
-    let x = c.args.extensions.now in
-    subst (λ (o : Option Source). IfOk c.known_store_of.result
-    (λ (s : Store). IsOfHeight (extensions_view x) (calls_of x) o s)) (sym c.in-Some.is)
-    c.known_store_of.ensures.height
-
-pub returns-in-None-clause-height : goal.returns-in-None-clause-height
-returns-in-None-clause-height g c =
-    let x = c.args.extensions.now in
-    subst (λ (o : Option Source). IfOk c.no_entities.result
-    (λ (s : Store). IsOfHeight (extensions_view x) (calls_of x) o s)) (sym c.in-None.is)
-    (of_two (λ (s : Store). store_view s.entities ≡ record { entity = no_entities; is_partial = false })
-    (λ s. s.height ≡ 0) (λ s. IsOfHeight (extensions_view x) (calls_of x) None s)
-    (λ s is low. (0, no_height (extensions_view x) (calls_of x) s.entities is, low ∙ none_capped))
-    c.no_entities.result c.no_entities.ensures.given c.no_entities.ensures.height)

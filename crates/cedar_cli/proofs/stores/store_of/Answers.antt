@@ -12,10 +12,3 @@ returns-in-Err-closed_store-clause-refused g c =
     (λ h. left_unclosed
     (record { entities = c.in-Ok.entities.items; said = c.in-Ok.ensures.made; not_closed = h }))
     c.in-Err-closed_store.refusal c.in-Err-closed_store.ensures.refused
-
-pub returns-in-Ok-closed_store-clause-reported : goal.returns-in-Ok-closed_store-clause-reported
-returns-in-Ok-closed_store-clause-reported g c = record {
-  entities = c.in-Ok.entities.items;
-  said = c.in-Ok.ensures.made;
-  reported = c.in-Ok-closed_store.ensures.reported;
-}

@@ -1,10 +1,7 @@
 use Rattle.std.proofs.Common.{◌≡◌, subst}
-use Rattle.cedar_model.specs.Chains.{all_residuals}
 use Rattle.cedar_model.specs.Configurations.{Configuration, configured}
 use Rattle.cedar_model.specs.Settings.{shallow}
 use Rattle.cedar_authorizer.specs.declared.responses.partial_response.PartialResponse.{PartialResponse}
-use Rattle.cedar_authorizer.specs.Responding.{considered}
-use Rattle.cedar_authorizer.specs.responses.Rows.{rows_view}
 use Rattle.cedar_extensions.specs.Extensions.{extensions_view, calls_of}
 use Rattle.cedar_response_json.specs.Extensions.{names_of}
 use Rattle.cedar_cli.specs.Reasons.{IsToldFor}
@@ -25,8 +22,8 @@ returns-in-Ok-saved-clause-answered g c =
       taken = subst (λ (d : Configuration). AreTakenFrom d first c.args.store.now.entities c.args.steps.now later)
           (λ i. configured (calls_of x) (c.error_handling.ensures i) shallow (extensions_view x) (levels_in w.limit))
           c.in-Ok.ensures.taken;
-      policies = made.0;
-      policies_are = subst (λ (r : PartialResponse). considered made.0 ≡ all_residuals (rows_view r)) c.in-Ok.ensures.first made.1;
+      no_policies = made.0;
+      none_are = made.1;
       saved = subst (λ (r : PartialResponse). ArePrintedAndSaved (names_of x) c.args.line.text.now made.0 w.is_json r
           later c.in-Ok-saved.saved) c.in-Ok.ensures.first made.2;
     }

@@ -1,8 +1,7 @@
-use Rattle.std.proofs.Common.{◌≡◌, ◌∙◌, ap, sym, Ok}
 use Rattle.cedar_extensions.specs.Extensions.{extensions_view, calls_of}
-use Rattle.cedar_cli.proofs.Composed.{of_ok, of_err}
+use Rattle.cedar_cli.proofs.Composed.{of_err}
 use Rattle.cedar_cli.proofs.Reasoned.{because}
-use Rattle.cedar_cli_tests.specs.Tested.{AreNotRun}
+use Rattle.cedar_cli_tests.specs.Tested.{AreNoTests}
 use Rattle.cedar_cli_tests.specs.Results.{IsUntestedBy, by_tests}
 use Rattle.cedar_cli_tests.proofs.runs.run_read.Goals as goal
 
@@ -12,10 +11,5 @@ returns-clause-refused g c =
     let q = c.args.asked.now in
     let text = c.args.tests.text.now in
     of_err _ _
-    (λ r. because (AreNotRun q text) (IsUntestedBy (extensions_view x) (calls_of x) q text) (λ h. by_tests h) r)
+    (λ r. because (AreNoTests text) (IsUntestedBy (extensions_view x) (calls_of x) q text) (λ h. by_tests h) r)
     c.run_text-printed.result c.run_text-printed.ensures.refused
-
-pub returns-clause-warnings : goal.returns-clause-warnings
-returns-clause-warnings g c =
-    of_ok (λ p. p.warnings ≡ c.in_ok-warnings.warnings) (λ p. c.args.warnings ≡ Ok p.warnings)
-    (λ p same. c.in_ok-warnings.was ∙ ap Ok (sym same)) c.run_text-printed.result c.run_text-printed.ensures.warnings

@@ -1,5 +1,5 @@
 -- The standard extensions alone are those that the definitions name.
-use Rattle.std.proofs.Common.{◌≡◌, subst, Ok, IfOk, string_bytes}
+use Rattle.std.proofs.Common.{subst}
 use Rattle.cedar_model.specs.Agreement.{AgreesWithFunctions}
 use Rattle.cedar_extensions.specs.Extensions.{extensions_view, calls_of}
 use Rattle.cedar_text_parser.specs.PolicyReading.{AreAllRead}
@@ -7,7 +7,6 @@ use Rattle.cedar_standard_functions.specs.Standard.{standard_answers}
 use Rattle.cedar_cli.specs.Questions.{levels}
 use Rattle.cedar_cli.specs.Reasons.{IsToldFor}
 use Rattle.cedar_cli.specs.Standard.{standard_extensions, standard_calls, standard_knowledge}
-use Rattle.cedar_cli.specs.Warned.{AreNotices, AreTemplatesReported, template_notices}
 use Rattle.cedar_cli.proofs.Alone.{calls_alone, view_alone, known_alone}
 use Rattle.cedar_cli.proofs.Composed.{of_ok, of_err}
 use Rattle.cedar_cli.proofs.Reasoned.{because}
@@ -70,20 +69,3 @@ returns-clause-refused c =
     (subst (λ calls. IsUntestedBy standard_extensions calls q tests) (calls_alone x none there)
     (subst (λ v. IsUntestedBy v (calls_of x) q tests) (view_alone x none there) h))) r)
     c.run_read-printed.result c.run_read-printed.ensures.refused
-
-pub returns-clause-warned : goal.returns-clause-warned
-returns-clause-warned c =
-    let x = c.all_available-extensions.result in
-    let none = c.all_available-extensions.ensures.extensions in
-    let there = c.all_available-extensions.ensures.standard in
-    let parsed = c.in_ok-parsed.parsed in
-    let s = c.args.policies in
-    let told = c.template_warnings-warnings.result in
-    of_ok (λ p. told ≡ Ok p.warnings) (AreTemplatesReported s)
-    (λ p same. record {
-      parsed = parsed;
-      policies_are = subst (λ k. AreAllRead k s.text.now levels parsed) (known_alone x none there) c.in_ok-parsed.ensures.read;
-      warnings_are = subst (λ r. IfOk r (λ w. AreNotices (template_notices s parsed.templates.items) (string_bytes w))) same
-          c.template_warnings-warnings.ensures;
-    })
-    c.run_read-printed.result c.run_read-printed.ensures.warnings

@@ -4,9 +4,9 @@ use Rattle.cedar_extensions.specs.Extensions.{extensions_view, calls_of}
 use Rattle.cedar_policy_tests.specs.Said.{tests_in}
 use Rattle.cedar_cli.proofs.Composed.{of_ok, of_err}
 use Rattle.cedar_cli.proofs.Reasoned.{because}
-use Rattle.cedar_cli_tests.specs.Tested.{AreNotRun}
-use Rattle.cedar_cli_tests.specs.Results.{AreReadTestedBy, IsTextTestedBy, IsNotRun}
-use Rattle.cedar_cli_tests.proofs.Judging.{says, not_run}
+use Rattle.cedar_cli_tests.specs.Tested.{AreNoTests}
+use Rattle.cedar_cli_tests.specs.Results.{AreReadTestedBy, IsTextTestedBy}
+use Rattle.cedar_cli_tests.proofs.Judging.{says, not_tests}
 use Rattle.cedar_cli_tests.proofs.runs.run_text.Goals as goal
 
 pub returns-in-Ok-clause-tested : goal.returns-in-Ok-clause-tested
@@ -20,7 +20,6 @@ returns-in-Ok-clause-tested g c =
     (IsTextTestedBy (extensions_view x) (calls_of x) e.policies.now e.way q text)
     (λ p h. record {
       said = h.said;
-      over_some = h.over_some;
       tests_are = says text j (λ k. tests_in k ≡ Some h.said) c.in-Ok.ensures.said c.in-Ok.ensures.unique h.tests_are;
       tested = h.tested;
     })
@@ -28,9 +27,8 @@ returns-in-Ok-clause-tested g c =
 
 pub returns-in-Ok-clause-refused : goal.returns-in-Ok-clause-refused
 returns-in-Ok-clause-refused g c =
-    let q = c.args.asked.now in
     let text = c.args.tests.text.now in
     let j = value_view c.in-Ok.value in
     of_err _ _
-    (λ r. because (IsNotRun q j) (AreNotRun q text) (not_run q text j c.in-Ok.ensures.said c.in-Ok.ensures.unique) r)
+    (λ r. because (tests_in j ≡ None) (AreNoTests text) (not_tests text j c.in-Ok.ensures.said) r)
     c.run_value.result c.run_value.ensures.refused

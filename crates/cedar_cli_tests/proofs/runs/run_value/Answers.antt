@@ -1,18 +1,17 @@
-use Rattle.std.proofs.Common.{◌≡◌, sym, subst, ap, ◌∙◌, true, inl, inr, IfSome, None, is_some, option_map}
+use Rattle.std.proofs.Common.{sym, subst, ap, ◌∙◌, IfSome, option_map}
 use Rattle.json.specs.Tree.{HasNumbers}
 use Rattle.json.specs.Value.{value_view}
 use Rattle.cedar_extensions.specs.Extensions.{extensions_view, calls_of}
 use Rattle.cedar_policy_tests.specs.Views.{tests_view}
 use Rattle.cedar_policy_tests.specs.Written.{AreWritable}
-use Rattle.cedar_cli.proofs.Composed.{of_two, of_err}
+use Rattle.cedar_cli.proofs.Composed.{of_ok, of_err}
 use Rattle.cedar_cli.proofs.Reasoned.{because}
-use Rattle.cedar_cli_tests.specs.Results.{AreTestedBy, AreReadTestedBy, IsNotRun}
-use Rattle.cedar_cli_tests.specs.Tested.{LackEntities, first_over_none}
+use Rattle.cedar_cli_tests.specs.Results.{AreTestedBy, AreReadTestedBy}
 use Rattle.cedar_cli_tests.proofs.Judging.{told_as}
 use Rattle.cedar_cli_tests.proofs.runs.run_value.Goals as goal
 
-pub run_given-requires-clause-writable : goal.run_given-requires-clause-writable
-run_given-requires-clause-writable g c =
+pub run_all-requires-clause-writable : goal.run_all-requires-clause-writable
+run_all-requires-clause-writable g c =
     subst (λ o. IfSome o (λ v. HasNumbers (value_view c.args.value.now) → AreWritable (tests_view v))) c.in-Some.is
     c.in_ok-read.ensures.writable c.requires.writable
 
@@ -23,27 +22,19 @@ returns-in-Some-clause-tested g c =
     let q = c.args.asked.now in
     let j = value_view c.args.value.now in
     let ts = tests_view c.in-Some.all in
-    of_two (λ p. first_over_none q.entities ts ≡ None) (AreTestedBy (extensions_view x) (calls_of x) e.policies.now e.way q ts)
+    of_ok (AreTestedBy (extensions_view x) (calls_of x) e.policies.now e.way q ts)
     (AreReadTestedBy (extensions_view x) (calls_of x) e.policies.now e.way q j)
-    (λ p over h. record {
+    (λ p h. record {
       said = ts;
       tests_are = sym c.in_ok-read.ensures.said ∙ ap (option_map tests_view) c.in-Some.is;
-      over_some = over;
       tested = h;
     })
-    c.run_given.result c.run_given.ensures.over c.run_given.ensures.tested
+    c.run_all.result c.run_all.ensures.tested
 
 pub returns-in-Some-clause-refused : goal.returns-in-Some-clause-refused
 returns-in-Some-clause-refused g c =
-    let q = c.args.asked.now in
-    let j = value_view c.args.value.now in
-    let ts = tests_view c.in-Some.all in
-    of_err _ _
-    (λ r. because (is_some (first_over_none q.entities ts) ≡ true) (IsNotRun q j)
-    (λ h. inr (subst (LackEntities q.entities)
-    (sym (sym c.in_ok-read.ensures.said ∙ ap (option_map tests_view) c.in-Some.is)) h)) r)
-    c.run_given.result c.run_given.ensures.refused
+    of_err _ _ (λ r. because ⊥ _ (λ h. absurd h) r) c.run_all.result c.run_all.ensures.refused
 
 pub returns-in-None-clause-refused : goal.returns-in-None-clause-refused
 returns-in-None-clause-refused g c =
-    told_as _ c.no_tests.result (inl (sym c.in_ok-read.ensures.said ∙ ap (option_map tests_view) c.in-None.is))
+    told_as _ c.no_tests.result (sym c.in_ok-read.ensures.said ∙ ap (option_map tests_view) c.in-None.is)

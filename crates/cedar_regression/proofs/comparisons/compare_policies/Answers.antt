@@ -1,4 +1,4 @@
-use Rattle.std.proofs.Common.{◌≡◌, ◌++◌, subst, Ok, IfOk, string_bytes}
+use Rattle.std.proofs.Common.{subst}
 use Rattle.cedar_model.specs.Agreement.{AgreesWithFunctions}
 use Rattle.cedar_extensions.specs.Extensions.{extensions_view, calls_of}
 use Rattle.cedar_text_parser.specs.PolicyReading.{AreAllRead}
@@ -7,7 +7,6 @@ use Rattle.cedar_cli.specs.Batch.{asking}
 use Rattle.cedar_cli.specs.Questions.{levels}
 use Rattle.cedar_cli.specs.Reasons.{IsToldFor, IsKnownStoreUnread, IsRequestUnread, ArePoliciesUnread}
 use Rattle.cedar_cli.specs.Standard.{standard_extensions, standard_calls, standard_knowledge}
-use Rattle.cedar_cli.specs.Warned.{AreNotices, AreBothTemplatesReported, template_notices}
 use Rattle.cedar_cli.proofs.Alone.{calls_alone, view_alone, known_alone}
 use Rattle.cedar_cli.proofs.Composed.{of_ok, of_err}
 use Rattle.cedar_cli.proofs.Reasoned.{because}
@@ -75,24 +74,3 @@ returns-clause-refused c =
     (subst (λ calls. IsKnownStoreUnread standard_extensions calls q.entities q.max_ancestors) (calls_alone x none there)
     (subst (λ v. IsKnownStoreUnread v (calls_of x) q.entities q.max_ancestors) (view_alone x none there) h))) r)
     c.compare_read-printed.result c.compare_read-printed.ensures.refused
-
-pub returns-clause-warned : goal.returns-clause-warned
-returns-clause-warned c =
-    let x = c.all_available-extensions.result in
-    let none = c.all_available-extensions.ensures.extensions in
-    let there = c.all_available-extensions.ensures.standard in
-    let old = c.in_ok-old_parsed.old_parsed in
-    let new = c.in_ok-new_parsed.new_parsed in
-    let told = c.template_warnings-warnings.result in
-    of_ok (λ p. told ≡ Ok p.warnings) (AreBothTemplatesReported c.args.old c.args.new)
-    (λ p same. record {
-      old_parsed = old;
-      new_parsed = new;
-      old_are = subst (λ k. AreAllRead k c.args.old.text.now levels old) (known_alone x none there)
-          c.in_ok-old_parsed.ensures.read;
-      new_are = subst (λ k. AreAllRead k c.args.new.text.now levels new) (known_alone x none there)
-          c.in_ok-new_parsed.ensures.read;
-      warnings_are = subst (λ r. IfOk r (λ w. AreNotices (template_notices c.args.old old.templates.items
-          ++ template_notices c.args.new new.templates.items) (string_bytes w))) same c.template_warnings-warnings.ensures;
-    })
-    c.compare_read-printed.result c.compare_read-printed.ensures.warnings

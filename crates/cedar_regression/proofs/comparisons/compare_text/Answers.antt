@@ -7,8 +7,8 @@ use Rattle.cedar_log.specs.Reading.{asked_of}
 use Rattle.cedar_regression.proofs.Lines.{each_asks}
 use Rattle.cedar_regression.proofs.comparisons.compare_text.Goals as goal
 
-pub returns-clause-compared : goal.returns-clause-compared
-returns-clause-compared g c =
+pub returns : goal.returns
+returns g c =
     let x = c.args.extensions.now in
     let of = c.in_ok-all.ensures in
     let all = c.in_ok-all.all in

@@ -37,5 +37,5 @@ returns-in-Err-clause-refused g c =
     let s = c.args.stored.now in
     let w = ways_view c.args.ways in
     let q = evaluation_view c.args.question.now in
-    because (AreWrongOfNamed (extensions_view x) (calls_of x) w s q.subject (codes "$.subject.type") q.properties.subject
+    because (AreWrongOfNamed (extensions_view x) (calls_of x) w.properties s q.subject (codes "$.subject.type") q.properties.subject
     (codes "$.subject.properties")) (AreUnlaid (extensions_view x) (calls_of x) w s q) (λ u h. of_subject h) c.in-Err.refusal c.in-Err.ensures.refused

@@ -3,7 +3,6 @@ use Rattle.std.proofs.Common.{codes}
 use Rattle.json.specs.Value.{value_view}
 use Rattle.cedar_names.specs.Names.{uid_name}
 use Rattle.cedar_service.specs.Brought.{laid_or}
-use Rattle.cedar_service.specs.Ways.{ways_view}
 use Rattle.cedar_service.specs.Faults.{IsToldAs}
 use Rattle.cedar_service.specs.Properties.{IsActionNamed, AreLaid, AreWrong, IsLaidAs, IsUnlaid}
 use Rattle.cedar_service.proofs.Composed.{of_ok, of_err, because}
@@ -13,7 +12,7 @@ pub returns-in-Ok-clause-laid : goal.returns-in-Ok-clause-laid
 returns-in-Ok-clause-laid g c =
     let x = c.args.extensions.now in
     let s = c.args.stored.now in
-    let w = ways_view c.args.ways in
+    let w = c.args.ways.properties in
     let b = laid_or s c.args.laid in
     let j = value_view c.args.given.now in
     let n = uid_name c.in-Ok.uid in
@@ -24,7 +23,7 @@ returns-in-Ok-clause-laid g c =
 pub returns-in-Ok-clause-refused : goal.returns-in-Ok-clause-refused
 returns-in-Ok-clause-refused g c =
     let x = c.args.extensions.now in
-    let w = ways_view c.args.ways in
+    let w = c.args.ways.properties in
     let b = laid_or c.args.stored.now c.args.laid in
     let j = value_view c.args.given.now in
     let n = uid_name c.in-Ok.uid in

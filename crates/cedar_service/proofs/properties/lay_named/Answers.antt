@@ -5,7 +5,6 @@ use Rattle.cedar_names.specs.Names.{uid_name}
 use Rattle.cedar_endpoints.specs.Asked.{named_view}
 use Rattle.cedar_service.specs.Asked.{IsUnnamed}
 use Rattle.cedar_service.specs.Brought.{laid_or}
-use Rattle.cedar_service.specs.Ways.{ways_view}
 use Rattle.cedar_service.specs.Faults.{IsFault, IsToldAs}
 use Rattle.cedar_service.specs.Properties.{IsNamedAs, AreLaid, AreWrongUnless, AreWrongOfNamed, IsLaidAs, IsUnlaid, no_name, wrong}
 use Rattle.cedar_service.proofs.Composed.{of_ok, of_err, because}
@@ -15,7 +14,7 @@ pub returns-in-Ok-clause-laid : goal.returns-in-Ok-clause-laid
 returns-in-Ok-clause-laid g c =
     let x = c.args.extensions.now in
     let s = c.args.stored.now in
-    let w = ways_view c.args.ways in
+    let w = c.args.claims in
     let b = laid_or s c.args.laid in
     let j = value_view c.args.given.now in
     let n = uid_name c.in-Ok.uid in
@@ -26,7 +25,7 @@ returns-in-Ok-clause-laid g c =
 pub returns-in-Ok-clause-refused : goal.returns-in-Ok-clause-refused
 returns-in-Ok-clause-refused g c =
     let x = c.args.extensions.now in
-    let w = ways_view c.args.ways in
+    let w = c.args.claims in
     let b = laid_or c.args.stored.now c.args.laid in
     let j = value_view c.args.given.now in
     let n = uid_name c.in-Ok.uid in
@@ -38,7 +37,7 @@ returns-in-Ok-clause-refused g c =
 pub returns-in-Err-clause-refused : goal.returns-in-Err-clause-refused
 returns-in-Err-clause-refused g c =
     let x = c.args.extensions.now in
-    let w = ways_view c.args.ways in
+    let w = c.args.claims in
     let b = laid_or c.args.stored.now c.args.laid in
     let q = named_view c.args.named in
     because (λ t. IsUnnamed q × IsFault c.args.type_path.now (codes "not a name") t)

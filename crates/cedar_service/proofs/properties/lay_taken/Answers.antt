@@ -3,7 +3,7 @@ use Rattle.cedar_extensions.specs.Extensions.{extensions_view, calls_of}
 use Rattle.json.specs.Value.{value_view}
 use Rattle.cedar_names.specs.Names.{uid_name}
 use Rattle.cedar_service.specs.Faults.{IsToldAs}
-use Rattle.cedar_service.specs.Ways.{ways_view}
+use Rattle.cedar_service.specs.Ways.{wins}
 use Rattle.cedar_service.specs.Properties.{IsLaidOver, IsLaidAs, AreTaken, AreNoAttributes, IsUnlaid, no_attributes, taken}
 use Rattle.cedar_service.proofs.Composed.{of_ok, of_err, because}
 use Rattle.cedar_service.proofs.properties.lay_taken.Goals as goal
@@ -11,7 +11,7 @@ use Rattle.cedar_service.proofs.properties.lay_taken.Goals as goal
 pub returns-in-Ok-clause-laid : goal.returns-in-Ok-clause-laid
 returns-in-Ok-clause-laid g c =
     let x = c.args.extensions.now in
-    let w = ways_view c.args.ways in
+    let w = c.args.claims in
     let s = c.args.store.now in
     let n = uid_name c.args.uid in
     let m = c.in-Ok.attributes in
@@ -21,7 +21,7 @@ returns-in-Ok-clause-laid g c =
 pub returns-in-Ok-clause-refused : goal.returns-in-Ok-clause-refused
 returns-in-Ok-clause-refused g c =
     let x = c.args.extensions.now in
-    let w = ways_view c.args.ways in
+    let w = c.args.claims in
     let s = c.args.store.now in
     let n = uid_name c.args.uid in
     let m = c.in-Ok.attributes in
@@ -34,7 +34,7 @@ returns-in-Ok-clause-refused g c =
 pub returns-in-Err-clause-refused : goal.returns-in-Err-clause-refused
 returns-in-Err-clause-refused g c =
     let x = c.args.extensions.now in
-    let w = ways_view c.args.ways in
+    let w = c.args.claims in
     let s = c.args.store.now in
     let n = uid_name c.args.uid in
     let j = value_view c.args.given.now in

@@ -17,7 +17,7 @@ returns-in-Ok-clause-laid g c =
     let q = evaluation_view c.args.question.now in
     let b = laid_or s c.args.laid in
     let t = laid_or s c.in-Ok.laid in
-    of_ok (λ o. IsWithProperties (extensions_view x) (calls_of x) w t (IsNamedAs q.resource) q.properties.resource (laid_or s o))
+    of_ok (λ o. IsWithProperties (extensions_view x) (calls_of x) w.properties t (IsNamedAs q.resource) q.properties.resource (laid_or s o))
     (λ o. IsAskedWithAction (extensions_view x) (calls_of x) w b q (laid_or s o))
     (λ o h. record { with_action = t; action = c.in-Ok.ensures.laid; resource = h }) c.with_named.result
     c.with_named.ensures.laid
@@ -30,7 +30,7 @@ returns-in-Ok-clause-refused g c =
     let q = evaluation_view c.args.question.now in
     let b = laid_or s c.args.laid in
     let t = laid_or s c.in-Ok.laid in
-    let Wrong = AreWrongOfNamed (extensions_view x) (calls_of x) w t q.resource (codes "$.resource.type") q.properties.resource
+    let Wrong = AreWrongOfNamed (extensions_view x) (calls_of x) w.properties t q.resource (codes "$.resource.type") q.properties.resource
     (codes "$.resource.properties") in
     of_err (IsToldAs Wrong) (IsToldAs (IsActionUnlaid (extensions_view x) (calls_of x) w b q))
     (because Wrong (IsActionUnlaid (extensions_view x) (calls_of x) w b q) (λ u h. of_resource t c.in-Ok.ensures.laid h))
@@ -43,5 +43,5 @@ returns-in-Err-clause-refused g c =
     let w = ways_view c.args.ways in
     let q = evaluation_view c.args.question.now in
     let b = laid_or s c.args.laid in
-    because (AreWrongProperties (extensions_view x) (calls_of x) w b (IsActionNamed w.action_type q.action) q.properties.action (codes "$.action.properties"))
+    because (AreWrongProperties (extensions_view x) (calls_of x) w.properties b (IsActionNamed w.action_type q.action) q.properties.action (codes "$.action.properties"))
     (IsActionUnlaid (extensions_view x) (calls_of x) w b q) (λ u h. of_action h) c.in-Err.refusal c.in-Err.ensures.refused

@@ -33,7 +33,7 @@ returns-clause-engine c =
       exact = exactly c.known_calls_of_policies.ensures.policies c.functions_are_computed.ensures.nothing_asked agree
           standard_knowledge p t e has;
       searches = searched standard_knowledge p t e has;
-      untouched = λ w q s none unnamed is. asked_untouched w (entities_of e) q s none unnamed is;
+      untouched = λ w q s none is. asked_untouched w (entities_of e) q s none is;
       alone = λ w text s none is. brought_alone w (entities_of e) text s none is;
     })
     c.engine_of_texts.result c.engine_of_texts.ensures.engine
