@@ -9,7 +9,7 @@
 //! `Questions` of `cedar_cli`). So a row that it shows is of the type that is asked for and is allowed, whatever the policies
 //! decide that SQL does not say; with candidates, a row of that type that it leaves out is denied. It is refused for the
 //! reasons of `specs/Unplanned` alone. That a reader of SQL reads this expression of the text is tested, not proved
-//! (`docs/PROVED.md`). What is told on standard error is tested by `cedar_test_cli`.
+//! (`docs/PROVED.md`). What is reported on standard error is tested by `cedar_test_cli`.
 #![tactic(auto)]
 
 mod answers;

@@ -62,7 +62,8 @@ pub has_key-stored : (k : Stored) (ks : List Stored) → list_any (is_tied_key k
 has_key-stored k ks = asked_by_name name_of key_eq key_eq-decides is_tied_key is_tied_key-by_texts k ks
 
 -- one more was put in
-pub has_key-put : (old new : List Stored) (key : Stored) → list_any (is_tied_key key) new ≡ true → KeepsOthers is_tied_key (is_tied_key key) old new
+pub has_key-put : (old new : List Stored) (key : Stored) → list_any (is_tied_key key) new ≡ true
+    → KeepsOthers is_tied_key (is_tied_key key) old new
     → has_key new ≡ with_key (has_key old) (name_of key)
 has_key-put old new key there others =
     λ i n. put_by_name name_of key_eq key_eq-decides is_tied_key is_tied_key-by_texts old new key there others n i

@@ -26,22 +26,27 @@ pub ruleset knowing = (with_each-append)
 pub has_type-stored : (t : EntityType) (ts : List EntityType) → list_any (is_tied_type t) ts ≡ has_type ts (type_text t)
 has_type-stored t ts = asked_by_name type_text text_eq text_eq-decides is_tied_type is_tied_type-by_text t ts
 
-pub has_type-put : (old new : List EntityType) (key : EntityType) (t : Text) → type_text key ≡ t → list_any (is_tied_type key) new ≡ true
+pub has_type-put : (old new : List EntityType) (key : EntityType) (t : Text) → type_text key ≡ t
+    → list_any (is_tied_type key) new ≡ true
     → KeepsOthers is_tied_type (is_tied_type key) old new → has_type new ≡ with_type (has_type old) t
 has_type-put old new key t named there others =
-    (λ i u. put_by_name type_text text_eq text_eq-decides is_tied_type is_tied_type-by_text old new key there others u i)
+    (λ i u. put_by_name type_text text_eq text_eq-decides is_tied_type is_tied_type-by_text old new key there others u
+    i)
     ∙ ap (with_type (has_type old)) named
 
 -- ---- entities
 
-any_of_name : (n : EntityName) (us : List EntityUID) → list_any (λ (u : EntityUID). entity_eq n (uid_name u)) us ≡ is_among n (map uid_name us)
+any_of_name : (n : EntityName) (us : List EntityUID) → list_any (λ (u : EntityUID). entity_eq n (uid_name u)) us
+    ≡ is_among n (map uid_name us)
 unfolding is_among
 any_of_name n [] = refl
 any_of_name n (u ∷ us) = ap (λ (b : Bool). entity_eq n (uid_name u) || b) (any_of_name n us)
 
-pub has_entity-put : (old new : List EntityUID) (key : EntityUID) (n : EntityName) → uid_name key ≡ n → list_any (is_tied key) new ≡ true
+pub has_entity-put : (old new : List EntityUID) (key : EntityUID) (n : EntityName) → uid_name key ≡ n
+    → list_any (is_tied key) new ≡ true
     → KeepsOthers is_tied (is_tied key) old new → has_entity new ≡ with_entity (has_entity old) n
 has_entity-put old new key n named there others =
-    (λ i m. (sym (any_of_name m new) ∙ put_by_name uid_name entity_eq entity_eq-decides is_tied is_tied-by_name old new key there others m
+    (λ i m. (sym (any_of_name m new)
+    ∙ put_by_name uid_name entity_eq entity_eq-decides is_tied is_tied-by_name old new key there others m
     ∙ ap (λ (b : Bool). b || entity_eq m (uid_name key)) (any_of_name m old)) i)
     ∙ ap (with_entity (has_entity old)) named

@@ -16,7 +16,7 @@ use Rattle.cedar_lints.specs.Keys.{Key, Sheet, has_key, once}
 use Rattle.cedar_lints.specs.Knowing.{Known}
 use Rattle.cedar_lints.specs.Mentions.{Mention, Named, entity, of_type, group, policy_mentions, mentions_seen}
 
--- which policies are looked at, and what is told of them: of those that forbid no action by itself
+-- which policies are looked at, and what is reported of them: of those that forbid no action by itself
 pub data Extent : Type 0 where
   all : Extent
   those_that_forbid : Extent
@@ -39,9 +39,9 @@ is_action (entity u) = is_action_type (uid_name u).type_name
 is_action (of_type t) = false
 is_action (group u) = false
 
-abbrev pub is_told : Extent → Named → Bool
-is_told all n = true
-is_told those_that_forbid n = not (is_action n)
+abbrev pub is_reported : Extent → Named → Bool
+is_reported all n = true
+is_reported those_that_forbid n = not (is_action n)
 
 -- the type, unless it is known
 abbrev pub absent_type : Known → Mention → Text → Option Mention
@@ -66,17 +66,17 @@ absent_named k m (group u) = absent_group k m (uid_name u)
 abbrev pub absent_of : Known → Mention → Option Mention
 absent_of k m = absent_named k m m.named
 
-abbrev pub told_of : Extent → Mention → List Mention
-told_of x m = cond (is_told x m.named) (m ∷ []) []
+abbrev pub reported_of : Extent → Mention → List Mention
+reported_of x m = cond (is_reported x m.named) (m ∷ []) []
 
-abbrev pub told : Extent → Option Mention → List Mention
-told x None = []
-told x (Some m) = told_of x m
+abbrev pub reported : Extent → Option Mention → List Mention
+reported x None = []
+reported x (Some m) = reported_of x m
 
 -- those of mentions, in order
 abbrev pub absent_of_each : Extent → Known → List Mention → List Mention
 absent_of_each x k [] = []
-absent_of_each x k (m ∷ ms) = told x (absent_of k m) ++ absent_of_each x k ms
+absent_of_each x k (m ∷ ms) = reported x (absent_of k m) ++ absent_of_each x k ms
 
 -- those of a policy
 abbrev pub absent_of_policy : Extent → Known → Policy → List Mention

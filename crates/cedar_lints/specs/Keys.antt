@@ -31,7 +31,7 @@ nothing A = record { has = λ k. false; items = [] }
 abbrev pub with_key : (Key → Bool) → Key → Key → Bool
 with_key f k l = f l || key_eq l k
 
--- the item is noted behind the others, unless one of its key was
+-- the item is noted after the others, unless one of its key was
 abbrev pub noted : {A : Type 0} → (A → Key) → Sheet A → A → Sheet A
 noted key s x =
     cond (s.has (key x)) s (record { has = with_key s.has (key x); items = s.items ++ x ∷ [] })

@@ -32,7 +32,7 @@ is_alike fs =
     members_count fs == 2
     && (holds_text (represented_at (codes "id") fs) && holds_text (represented_at (codes "type") fs))
 
--- the paths at which such records stand in a value, each behind this path: what stands in a set stands at its path
+-- the paths at which such records stand in a value, each after this path: what stands in a set stands at its path
 abbrev mutual
   pub alike_below : Path → Represented → List Path
   alike_below p (plain_represented l) = []

@@ -24,7 +24,7 @@ use std::alloc::{AllocError, Global};
 use std::collections::BTreeSet;
 use std::rc::RcStr;
 
-/// Which policies are looked at, and what is told of them.
+/// Which policies are looked at, and what is reported of them.
 #[derive(Clone, Copy)]
 pub enum Extent {
     /// All policies and templates, and all that they name.
@@ -42,7 +42,7 @@ struct Sheet<'p> {
 }
 
 /// What these policies and templates name, and is not known: entities, types, and action groups, each once, where it is
-/// named first. An entity whose type is not known is told as its type; a group is not known where no entity that is known
+/// named first. An entity whose type is not known is reported as its type; a group is not known where no entity that is known
 /// is in it, nor is it one itself. Refuses only if out of memory.
 pub fn absent_names<'p>(
     alloc: Global,
@@ -184,24 +184,24 @@ fn note_if_absent<'p>(
     sheet: &mut Sheet<'p>,
 ) -> Result<(), AllocError>
     ensures { OnOk result (sheet_view sheet.new ≡ noted_each mention_key (sheet_view sheet.old)
-        (specs.told (extent_view extent) (absent_of (known_view known.now) (mention_view mention.entry)))) }
+        (specs.reported (extent_view extent) (absent_of (known_view known.now) (mention_view mention.entry)))) }
 {
     match absent_of(mention, known) {
-        Some(absent) => note_if_told(alloc, extent, absent, sheet),
+        Some(absent) => note_if_reported(alloc, extent, absent, sheet),
         None => Ok(()),
     }
 }
 
-fn note_if_told<'p>(
+fn note_if_reported<'p>(
     alloc: Global,
     extent: Extent,
     absent: Mention<'p>,
     sheet: &mut Sheet<'p>,
 ) -> Result<(), AllocError>
     ensures { OnOk result (sheet_view sheet.new ≡ noted_each mention_key (sheet_view sheet.old)
-        (specs.told_of (extent_view extent) (mention_view absent.entry))) }
+        (specs.reported_of (extent_view extent) (mention_view absent.entry))) }
 {
-    if is_told(extent, absent.named) {
+    if is_reported(extent, absent.named) {
         note(alloc, absent, sheet)
     } else {
         Ok(())
@@ -257,8 +257,8 @@ fn absent_group<'p>(mention: Mention<'p>, uid: &EntityUID, known: &Known) -> Opt
     }
 }
 
-fn is_told(extent: Extent, named: Named<'_>) -> bool
-    ensures { result ≡ specs.is_told (extent_view extent) (named_view named.entry) }
+fn is_reported(extent: Extent, named: Named<'_>) -> bool
+    ensures { result ≡ specs.is_reported (extent_view extent) (named_view named.entry) }
 {
     match extent {
         Extent::All => true,

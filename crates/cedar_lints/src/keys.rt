@@ -1,4 +1,4 @@
-//! Keys: lists of texts, by which a thing is told once.
+//! Keys: lists of texts, by which a thing is reported once.
 ghost use Rattle.std.specs.Prelude.{◌≡◌, ◌++◌, ◌∷◌, [], IfOk, OnOk};
 ghost use Rattle.std.specs.Rc.{rc_str_bytes};
 ghost use Rattle.cedar_names.specs.Leaves.{texts_view};
@@ -23,7 +23,7 @@ pub(crate) fn put_key(keys: &mut BTreeSet<Vec<RcStr>>, key: Vec<RcStr>) -> Resul
     Ok(())
 }
 
-/// Puts the text, shared, behind the others.
+/// Puts the text, shared, after the others.
 pub(crate) fn put_text(text: &RcStr, texts: &mut Vec<RcStr>) -> Result<(), AllocError>
     ensures { OnOk result
         (texts_view texts.new.items ≡ texts_view texts.old.items ++ rc_str_bytes text.now ∷ []) }
@@ -32,7 +32,7 @@ pub(crate) fn put_text(text: &RcStr, texts: &mut Vec<RcStr>) -> Result<(), Alloc
     Ok(())
 }
 
-/// Puts the texts, shared, behind the others.
+/// Puts the texts, shared, after the others.
 pub(crate) fn push_texts(more: &[RcStr], texts: &mut Vec<RcStr>) -> Result<(), AllocError>
     ensures { OnOk result
         (texts_view texts.new.items ≡ texts_view texts.old.items ++ texts_view more.now) }

@@ -91,7 +91,8 @@ fn put_type(types: &mut BTreeSet<EntityType>, ty: &EntityType) -> Result<(), All
 }
 
 fn put_entity(entities: &mut BTreeSet<EntityUID>, uid: &EntityUID) -> Result<(), AllocError>
-    ensures { OnOk result (has_entity entities.new.keys ≡ with_entity (has_entity entities.old.keys) (uid_name uid.now)) }
+    ensures { OnOk result
+        (has_entity entities.new.keys ≡ with_entity (has_entity entities.old.keys) (uid_name uid.now)) }
 {
     entities.insert(copied_uid(uid)?)?;
     Ok(())

@@ -4,7 +4,7 @@
 //!   `lookalikes_in_context`). Below it: `paths`, where such records stand in a value.
 //! - `mentions`: the entities, types and action groups that policies name, each with its place. `knowing`: what a store
 //!   has, and what a request names (`Known`). `absent`: what policies name and nothing has (`absent_names`).
-//! - `keys`: texts by which each is told once.
+//! - `keys`: texts by which each is reported once.
 //!
 //! The promise: what is answered are exactly these, each once, in the order of the store or of the policies, by
 //! definitions on plain data (`specs/Lookalikes.antt`, `specs/Absent.antt`). A policy that names what nothing has can

@@ -51,7 +51,7 @@ struct Sheet {
 
 /// The records that look like an entity in these parts of the entities, or within: in records and in sets. One whose
 /// members are exactly `type` and `id`, both texts, reads like an entity and equals none. Of entities of one type one is
-/// told for each path of names: the first, in the order of the entities' names. What is stored as a residual isn't
+/// reported for each path of names: the first, in the order of the entities' names. What is stored as a residual isn't
 /// looked at. Refuses only if out of memory.
 pub fn lookalikes_in_entities(
     alloc: Global,

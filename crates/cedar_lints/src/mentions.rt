@@ -36,7 +36,7 @@ pub struct Mention<'p> {
     pub place: Option<Loc>,
 }
 
-// Puts what the expression names behind the others.
+// Puts what the expression names after the others.
 #[cycle(mention)]
 fn push_mentions<'e>(expr: &'e Expr, found: &mut Vec<Mention<'e>>) -> Result<(), AllocError>
     ensures { OnOk result
@@ -180,7 +180,7 @@ fn place_of(expr: &Expr) -> Option<Loc>
     }
 }
 
-/// Puts what the policy names behind the others: in its scope, of principal, action and resource, and then in its
+/// Puts what the policy names after the others: in its scope, of principal, action and resource, and then in its
 /// condition.
 pub(crate) fn push_policy_mentions<'p>(
     policy: &'p Policy,

@@ -16,7 +16,7 @@ use std::alloc::{AllocError, Global};
 use std::collections::BTreeMap;
 use std::rc::RcStr;
 
-// Puts the paths of the value behind the others, each behind this path.
+// Puts the paths of the value after the others, each after this path.
 #[cycle(walk)]
 fn push_paths<'v>(
     alloc: Global,
@@ -85,7 +85,7 @@ fn push_paths_of_record<'v>(
     }
 }
 
-/// The same of each value of a record, behind its name.
+/// The same of each value of a record, after its name.
 #[cycle(walk)]
 pub(crate) fn push_paths_at<'v>(
     alloc: Global,
@@ -103,7 +103,7 @@ pub(crate) fn push_paths_at<'v>(
     Ok(())
 }
 
-/// The same of the value, behind this name.
+/// The same of the value, after this name.
 #[cycle(walk)]
 pub(crate) fn push_paths_under<'v>(
     alloc: Global,
@@ -140,7 +140,7 @@ fn holds_text(pairs: &BTreeMap<RcStr, Value>, name: &str) -> bool
     }
 }
 
-// Puts the path behind the others.
+// Puts the path after the others.
 fn push_path(alloc: Global, path: &[&RcStr], found: &mut Vec<Vec<RcStr>>) -> Result<(), AllocError>
     ensures { OnOk result
         (paths_view found.new.items ≡ paths_view found.old.items ++ names_seen path.now ∷ []) }

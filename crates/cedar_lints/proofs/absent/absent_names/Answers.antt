@@ -10,4 +10,7 @@ use Rattle.cedar_lints.proofs.absent.absent_names.Goals as goal
 pub returns : goal.returns
 returns c =
     c.taken.ensures
-    ∙ ap (λ (s : Sheet Mention). s.items) (both_noted (extent_view c.args.extent) (known_view c.args.known.now) (stored_policies c.args.policies.now) c.args.templates.now _ _ _ c.fresh-sheet.ensures c.in_ok-note_of_policies.ensures c.in_ok-note_of_templates.ensures)
+    ∙ ap (λ (s : Sheet Mention). s.items)
+    (both_noted (extent_view c.args.extent) (known_view c.args.known.now) (stored_policies c.args.policies.now)
+    c.args.templates.now _ _ _ c.fresh-sheet.ensures c.in_ok-note_of_policies.ensures
+    c.in_ok-note_of_templates.ensures)

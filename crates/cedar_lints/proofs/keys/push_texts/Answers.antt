@@ -10,7 +10,9 @@ texts-preserved c =
     let xs = c.args.more.now in
     let i = c.texts.text-index in
     let x = c.text-item.result in
-    pushed_more _ _ _ (rc_str_bytes x ∷ []) (texts_view (drop (i + 1) xs)) (texts_view (drop i xs)) (ap texts_view (drop_next xs i x c.texts-test.true c.text-item.is)) c.in_ok-put_text.ensures c.texts.invariant
+    pushed_more _ _ _ (rc_str_bytes x ∷ []) (texts_view (drop (i + 1) xs)) (texts_view (drop i xs))
+    (ap texts_view (drop_next xs i x c.texts-test.true c.text-item.is)) c.in_ok-put_text.ensures c.texts.invariant
 
 pub returns : goal.returns
-returns c = pushed_all _ _ _ (ap texts_view (drop_all c.texts.text-index c.args.more.now c.texts-test.false)) c.texts.invariant
+returns c = pushed_all _ _ _ (ap texts_view (drop_all c.texts.text-index c.args.more.now c.texts-test.false))
+    c.texts.invariant

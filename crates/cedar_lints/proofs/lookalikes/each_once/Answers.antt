@@ -12,9 +12,11 @@ paths-preserved c =
     let xs = c.args.paths.now in
     let i = c.paths.path-index in
     let x = c.path-item.result in
-    noted_more path_key _ _ _ (texts_view x.items ∷ []) (paths_view (drop (i + 1) xs)) (paths_view (drop i xs)) (ap paths_view (drop_next xs i x c.paths-test.true c.path-item.is)) c.in_ok-note_path.ensures c.paths.invariant
+    noted_more path_key _ _ _ (texts_view x.items ∷ []) (paths_view (drop (i + 1) xs)) (paths_view (drop i xs))
+    (ap paths_view (drop_next xs i x c.paths-test.true c.path-item.is)) c.in_ok-note_path.ensures c.paths.invariant
 
 pub returns : goal.returns
 returns c =
-    let all = noted_all path_key _ _ _ (ap paths_view (drop_all c.paths.path-index c.args.paths.now c.paths-test.false)) c.paths.invariant in
+    let all = noted_all path_key _ _ _
+    (ap paths_view (drop_all c.paths.path-index c.args.paths.now c.paths-test.false)) c.paths.invariant in
     ap (λ (s : Sheet Path). s.items) all

@@ -20,8 +20,14 @@ paths-preserved c =
     let x = c.names-item.result in
     let e = uid_name c.args.uid.now in
     let one : Lookalike = of_path e (texts_view x.items) in
-    noted_more lookalike_key _ _ _ (one ∷ []) (each_of e (paths_view (drop (i + 1) xs))) (each_of e (paths_view (drop i xs))) (ap (λ ys. each_of e (paths_view ys)) (drop_next xs i x c.paths-test.true c.names-item.is)) (c.in_ok-note.ensures ∙ ap (λ ns. noted lookalike_key (sheet_view c.paths.sheet) (of_path e (texts_view ns))) c.deref.ensures.value) c.paths.invariant
+    noted_more lookalike_key _ _ _ (one ∷ []) (each_of e (paths_view (drop (i + 1) xs)))
+    (each_of e (paths_view (drop i xs)))
+    (ap (λ ys. each_of e (paths_view ys)) (drop_next xs i x c.paths-test.true c.names-item.is))
+    (c.in_ok-note.ensures ∙ ap (λ ns. noted lookalike_key (sheet_view c.paths.sheet) (of_path e (texts_view ns)))
+    c.deref.ensures.value) c.paths.invariant
 
 pub returns : goal.returns
 returns c =
-    noted_all lookalike_key _ _ _ (ap (λ ys. each_of (uid_name c.args.uid.now) (paths_view ys)) (drop_all c.paths.names-index c.args.paths.now c.paths-test.false)) c.paths.invariant
+    noted_all lookalike_key _ _ _
+    (ap (λ ys. each_of (uid_name c.args.uid.now) (paths_view ys))
+    (drop_all c.paths.names-index c.args.paths.now c.paths-test.false)) c.paths.invariant

@@ -11,9 +11,11 @@ pub names-preserved : goal.names-preserved
 names-preserved c =
     let ps = (entity_view c.args.entity.now).tags in
     let k = rc_str_bytes c.in-Some.name.now in
-    pushed_more _ _ _ (found_paths k (part_at k ps)) (named_paths (map rc_str_bytes c.next.new.self) ps) (named_paths (map rc_str_bytes c.names.name-iterator) ps)
+    pushed_more _ _ _ (found_paths k (part_at k ps)) (named_paths (map rc_str_bytes c.next.new.self) ps)
+    (named_paths (map rc_str_bytes c.names.name-iterator) ps)
     (ap (λ ks. named_paths (map rc_str_bytes ks) ps) c.in-Some.ensures.steps)
-    (c.in_ok-push_found.ensures ∙ ap (λ o. paths_view c.names.found.items ++ found_paths k o) (c.get_tag.ensures.value ∙ ap (λ t. part_at t ps) c.as_str.ensures.value))
+    (c.in_ok-push_found.ensures ∙ ap (λ o. paths_view c.names.found.items ++ found_paths k o)
+    (c.get_tag.ensures.value ∙ ap (λ t. part_at t ps) c.as_str.ensures.value))
     c.names.invariant
 
 pub returns : goal.returns

@@ -71,14 +71,18 @@ push_each-parts-preserved t c =
     let xs = c.deref-part-items.result.now in
     let i = c.parts.part-index in
     let x = c.part-item.result in
-    pushed_more _ _ _ (mentions x) (mentions_each (drop (i + 1) xs)) (mentions_each (drop i xs)) (ap mentions_each (drop_next xs i x c.parts-test.true c.part-item.is)) c.in_ok-push_mentions.ensures c.parts.invariant
+    pushed_more _ _ _ (mentions x) (mentions_each (drop (i + 1) xs)) (mentions_each (drop i xs))
+    (ap mentions_each (drop_next xs i x c.parts-test.true c.part-item.is)) c.in_ok-push_mentions.ensures
+    c.parts.invariant
 
 pub push_each-returns : goal.push_each-returns
-push_each-returns t c = pushed_all _ _ _ (ap mentions_each (drop_all c.parts.part-index c.deref-part-items.result.now c.parts-test.false)) c.parts.invariant
+push_each-returns t c = pushed_all _ _ _
+    (ap mentions_each (drop_all c.parts.part-index c.deref-part-items.result.now c.parts-test.false)) c.parts.invariant
 
 pub push_at-parts-preserved : goal.push_at-parts-preserved
 push_at-parts-preserved t c =
-    pushed_more _ _ _ (mentions c.in-Some.part.now) (mentions_at c.next.new.self) (mentions_at c.parts.part-iterator) (ap mentions_at c.in-Some.ensures.steps) c.in_ok-push_mentions.ensures c.parts.invariant
+    pushed_more _ _ _ (mentions c.in-Some.part.now) (mentions_at c.next.new.self) (mentions_at c.parts.part-iterator)
+    (ap mentions_at c.in-Some.ensures.steps) c.in_ok-push_mentions.ensures c.parts.invariant
 
 pub push_at-returns : goal.push_at-returns
 push_at-returns t c = pushed_all _ _ _ (ap mentions_at c.in-None.ensures.steps.0) c.parts.invariant

@@ -14,7 +14,8 @@ returns-in-Slot c =
 
 pub returns-in-Unknown : goal.returns-in-Unknown
 returns-in-Unknown c =
-    sym (ap literal_at (sym (ap kind_node c.expr_kind.ensures.node) ∙ ap kind_node c.in-Unknown.is ∙ kind_node-Unknown _))
+    sym (ap literal_at
+    (sym (ap kind_node c.expr_kind.ensures.node) ∙ ap kind_node c.in-Unknown.is ∙ kind_node-Unknown _))
 
 pub returns-in-If : goal.returns-in-If
 returns-in-If c =
@@ -30,27 +31,34 @@ returns-in-Or c =
 
 pub returns-in-UnaryApp : goal.returns-in-UnaryApp
 returns-in-UnaryApp c =
-    sym (ap literal_at (sym (ap kind_node c.expr_kind.ensures.node) ∙ ap kind_node c.in-UnaryApp.is ∙ kind_node-UnaryApp _ _))
+    sym (ap literal_at
+    (sym (ap kind_node c.expr_kind.ensures.node) ∙ ap kind_node c.in-UnaryApp.is ∙ kind_node-UnaryApp _ _))
 
 pub returns-in-BinaryApp : goal.returns-in-BinaryApp
 returns-in-BinaryApp c =
-    sym (ap literal_at (sym (ap kind_node c.expr_kind.ensures.node) ∙ ap kind_node c.in-BinaryApp.is ∙ kind_node-BinaryApp _ _ _))
+    sym (ap literal_at
+    (sym (ap kind_node c.expr_kind.ensures.node) ∙ ap kind_node c.in-BinaryApp.is ∙ kind_node-BinaryApp _ _ _))
 
 pub returns-in-ExtensionFunctionApp : goal.returns-in-ExtensionFunctionApp
 returns-in-ExtensionFunctionApp c =
-    sym (ap literal_at (sym (ap kind_node c.expr_kind.ensures.node) ∙ ap kind_node c.in-ExtensionFunctionApp.is ∙ kind_node-ExtensionFunctionApp _ _))
+    sym (ap literal_at
+    (sym (ap kind_node c.expr_kind.ensures.node) ∙ ap kind_node c.in-ExtensionFunctionApp.is
+    ∙ kind_node-ExtensionFunctionApp _ _))
 
 pub returns-in-GetAttr : goal.returns-in-GetAttr
 returns-in-GetAttr c =
-    sym (ap literal_at (sym (ap kind_node c.expr_kind.ensures.node) ∙ ap kind_node c.in-GetAttr.is ∙ kind_node-GetAttr _ _))
+    sym (ap literal_at
+    (sym (ap kind_node c.expr_kind.ensures.node) ∙ ap kind_node c.in-GetAttr.is ∙ kind_node-GetAttr _ _))
 
 pub returns-in-HasAttr : goal.returns-in-HasAttr
 returns-in-HasAttr c =
-    sym (ap literal_at (sym (ap kind_node c.expr_kind.ensures.node) ∙ ap kind_node c.in-HasAttr.is ∙ kind_node-HasAttr _ _))
+    sym (ap literal_at
+    (sym (ap kind_node c.expr_kind.ensures.node) ∙ ap kind_node c.in-HasAttr.is ∙ kind_node-HasAttr _ _))
 
 pub returns-in-ExtHasAttr : goal.returns-in-ExtHasAttr
 returns-in-ExtHasAttr c =
-    sym (ap literal_at (sym (ap kind_node c.expr_kind.ensures.node) ∙ ap kind_node c.in-ExtHasAttr.is ∙ kind_node-ExtHasAttr _ _))
+    sym (ap literal_at
+    (sym (ap kind_node c.expr_kind.ensures.node) ∙ ap kind_node c.in-ExtHasAttr.is ∙ kind_node-ExtHasAttr _ _))
 
 pub returns-in-Like : goal.returns-in-Like
 returns-in-Like c =

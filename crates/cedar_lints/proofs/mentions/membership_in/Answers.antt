@@ -15,19 +15,23 @@ returns-in-Var c =
 
 pub returns-in-Slot : goal.returns-in-Slot
 returns-in-Slot c =
-    sym (ap membership_parts (sym (ap kind_node c.expr_kind.ensures.node) ∙ ap kind_node c.in-Slot.is ∙ kind_node-Slot _))
+    sym (ap membership_parts
+    (sym (ap kind_node c.expr_kind.ensures.node) ∙ ap kind_node c.in-Slot.is ∙ kind_node-Slot _))
 
 pub returns-in-Unknown : goal.returns-in-Unknown
 returns-in-Unknown c =
-    sym (ap membership_parts (sym (ap kind_node c.expr_kind.ensures.node) ∙ ap kind_node c.in-Unknown.is ∙ kind_node-Unknown _))
+    sym (ap membership_parts
+    (sym (ap kind_node c.expr_kind.ensures.node) ∙ ap kind_node c.in-Unknown.is ∙ kind_node-Unknown _))
 
 pub returns-in-If : goal.returns-in-If
 returns-in-If c =
-    sym (ap membership_parts (sym (ap kind_node c.expr_kind.ensures.node) ∙ ap kind_node c.in-If.is ∙ kind_node-If _ _ _))
+    sym (ap membership_parts
+    (sym (ap kind_node c.expr_kind.ensures.node) ∙ ap kind_node c.in-If.is ∙ kind_node-If _ _ _))
 
 pub returns-in-And : goal.returns-in-And
 returns-in-And c =
-    sym (ap membership_parts (sym (ap kind_node c.expr_kind.ensures.node) ∙ ap kind_node c.in-And.is ∙ kind_node-And _ _))
+    sym (ap membership_parts
+    (sym (ap kind_node c.expr_kind.ensures.node) ∙ ap kind_node c.in-And.is ∙ kind_node-And _ _))
 
 pub returns-in-Or : goal.returns-in-Or
 returns-in-Or c =
@@ -35,27 +39,34 @@ returns-in-Or c =
 
 pub returns-in-UnaryApp : goal.returns-in-UnaryApp
 returns-in-UnaryApp c =
-    sym (ap membership_parts (sym (ap kind_node c.expr_kind.ensures.node) ∙ ap kind_node c.in-UnaryApp.is ∙ kind_node-UnaryApp _ _))
+    sym (ap membership_parts
+    (sym (ap kind_node c.expr_kind.ensures.node) ∙ ap kind_node c.in-UnaryApp.is ∙ kind_node-UnaryApp _ _))
 
 pub returns-in-ExtensionFunctionApp : goal.returns-in-ExtensionFunctionApp
 returns-in-ExtensionFunctionApp c =
-    sym (ap membership_parts (sym (ap kind_node c.expr_kind.ensures.node) ∙ ap kind_node c.in-ExtensionFunctionApp.is ∙ kind_node-ExtensionFunctionApp _ _))
+    sym (ap membership_parts
+    (sym (ap kind_node c.expr_kind.ensures.node) ∙ ap kind_node c.in-ExtensionFunctionApp.is
+    ∙ kind_node-ExtensionFunctionApp _ _))
 
 pub returns-in-GetAttr : goal.returns-in-GetAttr
 returns-in-GetAttr c =
-    sym (ap membership_parts (sym (ap kind_node c.expr_kind.ensures.node) ∙ ap kind_node c.in-GetAttr.is ∙ kind_node-GetAttr _ _))
+    sym (ap membership_parts
+    (sym (ap kind_node c.expr_kind.ensures.node) ∙ ap kind_node c.in-GetAttr.is ∙ kind_node-GetAttr _ _))
 
 pub returns-in-HasAttr : goal.returns-in-HasAttr
 returns-in-HasAttr c =
-    sym (ap membership_parts (sym (ap kind_node c.expr_kind.ensures.node) ∙ ap kind_node c.in-HasAttr.is ∙ kind_node-HasAttr _ _))
+    sym (ap membership_parts
+    (sym (ap kind_node c.expr_kind.ensures.node) ∙ ap kind_node c.in-HasAttr.is ∙ kind_node-HasAttr _ _))
 
 pub returns-in-ExtHasAttr : goal.returns-in-ExtHasAttr
 returns-in-ExtHasAttr c =
-    sym (ap membership_parts (sym (ap kind_node c.expr_kind.ensures.node) ∙ ap kind_node c.in-ExtHasAttr.is ∙ kind_node-ExtHasAttr _ _))
+    sym (ap membership_parts
+    (sym (ap kind_node c.expr_kind.ensures.node) ∙ ap kind_node c.in-ExtHasAttr.is ∙ kind_node-ExtHasAttr _ _))
 
 pub returns-in-Like : goal.returns-in-Like
 returns-in-Like c =
-    sym (ap membership_parts (sym (ap kind_node c.expr_kind.ensures.node) ∙ ap kind_node c.in-Like.is ∙ kind_node-Like _ _))
+    sym (ap membership_parts
+    (sym (ap kind_node c.expr_kind.ensures.node) ∙ ap kind_node c.in-Like.is ∙ kind_node-Like _ _))
 
 pub returns-in-Is : goal.returns-in-Is
 returns-in-Is c =
@@ -67,4 +78,5 @@ returns-in-Set c =
 
 pub returns-in-Record : goal.returns-in-Record
 returns-in-Record c =
-    sym (ap membership_parts (sym (ap kind_node c.expr_kind.ensures.node) ∙ ap kind_node c.in-Record.is ∙ kind_node-Record _))
+    sym (ap membership_parts
+    (sym (ap kind_node c.expr_kind.ensures.node) ∙ ap kind_node c.in-Record.is ∙ kind_node-Record _))

@@ -12,9 +12,12 @@ pub returns-in-Some : goal.returns-in-Some
 returns-in-Some c =
     let old = mentions_seen c.args.found.now.items in
     let one = ap (one_at (group c.in-Some.uid.now)) c.place_of.ensures in
-    subst (λ (ms : List Mention). OnOk c.put.result (mentions_seen c.put.new.found.items ≡ old ++ ms)) (one ∙ ap (group_or c.args.expr.now) c.in-Some.ensures) c.put.ensures
+    subst (λ (ms : List Mention). OnOk c.put.result (mentions_seen c.put.new.found.items ≡ old ++ ms))
+    (one ∙ ap (group_or c.args.expr.now) c.in-Some.ensures) c.put.ensures
 
 pub returns-in-None : goal.returns-in-None
 returns-in-None c =
     let old = mentions_seen c.args.found.now.items in
-    subst (λ (ms : List Mention). OnOk c.push_mentions.result (mentions_seen c.push_mentions.new.found.items ≡ old ++ ms)) (ap (group_or c.args.expr.now) c.in-None.ensures) c.push_mentions.ensures
+    subst (λ (ms : List Mention). OnOk c.push_mentions.result
+    (mentions_seen c.push_mentions.new.found.items ≡ old ++ ms)) (ap (group_or c.args.expr.now) c.in-None.ensures)
+    c.push_mentions.ensures

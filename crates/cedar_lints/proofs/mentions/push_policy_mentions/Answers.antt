@@ -6,5 +6,9 @@ use Rattle.cedar_lints.proofs.mentions.push_policy_mentions.Goals as goal
 pub returns : goal.returns
 returns c =
     let old = mentions_seen c.args.found.now.items in
-    three_parts _ _ _ _ _ _ _ c.in_ok-push_mentions.ensures c.in_ok-push_action_mentions.ensures c.in_ok-push_two.ensures
-    ∙ (λ i. old ++ (mentions (c.principal_constraint.ensures.whole i) ++ (action_mentions (c.action_constraint.ensures.whole i) ++ (mentions (c.resource_constraint.ensures.whole i) ++ mentions (c.when_clause.ensures.whole i)))))
+    three_parts _ _ _ _ _ _ _ c.in_ok-push_mentions.ensures c.in_ok-push_action_mentions.ensures
+    c.in_ok-push_two.ensures
+    ∙ (λ i. old ++
+    (mentions (c.principal_constraint.ensures.whole i) ++
+    (action_mentions (c.action_constraint.ensures.whole i) ++
+    (mentions (c.resource_constraint.ensures.whole i) ++ mentions (c.when_clause.ensures.whole i)))))

@@ -26,9 +26,12 @@ push_paths_of_each-values-preserved t c =
     record {
       stays = c.in_ok-push_paths.ensures.path ∙ c.values.invariant.stays;
       same =
-          pushed_more _ _ _ (alike_below p x.what) (alike_each p (represented_values_of (whats (drop (i + 1) xs)))) (alike_each p (represented_values_of (whats (drop i xs))))
-          (ap (λ ys. alike_each p (represented_values_of (whats ys))) (drop_next xs i x c.values-test.true c.value-item.is))
-          (c.in_ok-push_paths.ensures.found ∙ ap (λ q. paths_view c.values.found.items ++ alike_below (names_seen q) x.what) c.values.invariant.stays)
+          pushed_more _ _ _ (alike_below p x.what) (alike_each p (represented_values_of (whats (drop (i + 1) xs))))
+          (alike_each p (represented_values_of (whats (drop i xs))))
+          (ap (λ ys. alike_each p (represented_values_of (whats ys)))
+          (drop_next xs i x c.values-test.true c.value-item.is))
+          (c.in_ok-push_paths.ensures.found
+          ∙ ap (λ q. paths_view c.values.found.items ++ alike_below (names_seen q) x.what) c.values.invariant.stays)
           c.values.invariant.same;
     }
 
@@ -38,7 +41,9 @@ push_paths_of_each-returns-clause-path t c = c.values.invariant.stays
 pub push_paths_of_each-returns-clause-found : goal.push_paths_of_each-returns-clause-found
 push_paths_of_each-returns-clause-found t c =
     let p = names_seen c.args.path.now.items in
-    pushed_all _ _ _ (ap (λ ys. alike_each p (represented_values_of (whats ys))) (drop_all c.values.value-index c.args.values.now c.values-test.false)) c.values.invariant.same
+    pushed_all _ _ _
+    (ap (λ ys. alike_each p (represented_values_of (whats ys)))
+    (drop_all c.values.value-index c.args.values.now c.values-test.false)) c.values.invariant.same
 
 pub push_paths_at-pairs-preserved : goal.push_paths_at-pairs-preserved
 push_paths_at-pairs-preserved t c =
@@ -49,9 +54,12 @@ push_paths_at-pairs-preserved t c =
     record {
       stays = c.in_ok-push_paths_under.ensures.path ∙ c.pairs.invariant.stays;
       same =
-          pushed_more _ _ _ (alike_below (p ++ k ∷ []) v.what) (alike_at p (whats_at c.next.new.self)) (alike_at p (whats_at c.pairs.name-iterator))
+          pushed_more _ _ _ (alike_below (p ++ k ∷ []) v.what) (alike_at p (whats_at c.next.new.self))
+          (alike_at p (whats_at c.pairs.name-iterator))
           (ap (λ es. alike_at p (whats_at es)) c.in-Some.ensures.steps)
-          (c.in_ok-push_paths_under.ensures.found ∙ ap (λ q. paths_view c.pairs.found.items ++ alike_below (names_seen q ++ k ∷ []) v.what) c.pairs.invariant.stays)
+          (c.in_ok-push_paths_under.ensures.found
+          ∙ ap (λ q. paths_view c.pairs.found.items ++ alike_below (names_seen q ++ k ∷ []) v.what)
+          c.pairs.invariant.stays)
           c.pairs.invariant.same;
       smaller = omega (arith, c.pairs.invariant.smaller);
     }
@@ -66,9 +74,13 @@ push_paths_at-returns-clause-found t c =
 
 pub push_paths_under-returns-clause-path : goal.push_paths_under-returns-clause-path
 push_paths_under-returns-clause-path t c =
-    cut_back c.args.path.now.items c.push.new.self.items c.push_paths.new.path.items c.truncate.new.self.items (length c.as_slice-above.result.now) c.args.name (ap length c.as_slice-above.ensures.value) c.in_ok-push.ensures.items c.in_ok-push_paths.ensures.path c.truncate.ensures.items
+    cut_back c.args.path.now.items c.push.new.self.items c.push_paths.new.path.items c.truncate.new.self.items
+    (length c.as_slice-above.result.now) c.args.name (ap length c.as_slice-above.ensures.value)
+    c.in_ok-push.ensures.items c.in_ok-push_paths.ensures.path c.truncate.ensures.items
 
 pub push_paths_under-returns-clause-found : goal.push_paths_under-returns-clause-found
 push_paths_under-returns-clause-found t c =
     c.in_ok-push_paths.ensures.found
-    ∙ ap (λ q. paths_view c.args.found.now.items ++ alike_below q c.args.value.now.what) (ap names_seen c.in_ok-push.ensures.items ∙ map-append (λ n. rc_str_bytes n.now) c.args.path.now.items (c.args.name ∷ []))
+    ∙ ap (λ q. paths_view c.args.found.now.items ++ alike_below q c.args.value.now.what)
+    (ap names_seen c.in_ok-push.ensures.items
+    ∙ map-append (λ n. rc_str_bytes n.now) c.args.path.now.items (c.args.name ∷ []))

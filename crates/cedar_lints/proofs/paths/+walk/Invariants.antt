@@ -11,8 +11,10 @@ abbrev pub invariant-push_paths_of_each-values : goal.invariant-push_paths_of_ea
 invariant-push_paths_of_each-values l =
     record {
       stays : l.path.items ≡ l.initial.path.items;
-      same : paths_view l.found.items ++ alike_each (names_seen l.initial.path.items) (represented_values_of (whats (drop l.value-index l.values)))
-          ≡ paths_view l.initial.found.items ++ alike_each (names_seen l.initial.path.items) (represented_values_of (whats l.values));
+      same : paths_view l.found.items ++ alike_each (names_seen l.initial.path.items)
+          (represented_values_of (whats (drop l.value-index l.values)))
+          ≡ paths_view l.initial.found.items ++ alike_each (names_seen l.initial.path.items)
+          (represented_values_of (whats l.values));
     }
 
 -- and what is left is no larger

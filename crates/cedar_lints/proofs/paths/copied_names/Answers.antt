@@ -10,7 +10,9 @@ names-preserved c =
     let xs = c.args.names.now in
     let i = c.names.name-index in
     let x = c.name-item.result in
-    pushed_more _ _ _ (rc_str_bytes x.now ∷ []) (names_seen (drop (i + 1) xs)) (names_seen (drop i xs)) (ap names_seen (drop_next xs i x c.names-test.true c.name-item.is)) c.in_ok-put_text.ensures c.names.invariant
+    pushed_more _ _ _ (rc_str_bytes x.now ∷ []) (names_seen (drop (i + 1) xs)) (names_seen (drop i xs))
+    (ap names_seen (drop_next xs i x c.names-test.true c.name-item.is)) c.in_ok-put_text.ensures c.names.invariant
 
 pub returns : goal.returns
-returns c = pushed_all _ _ _ (ap names_seen (drop_all c.names.name-index c.args.names.now c.names-test.false)) c.names.invariant
+returns c = pushed_all _ _ _ (ap names_seen (drop_all c.names.name-index c.args.names.now c.names-test.false))
+    c.names.invariant

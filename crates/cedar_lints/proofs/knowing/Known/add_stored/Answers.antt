@@ -6,5 +6,6 @@ use Rattle.cedar_lints.proofs.knowing.Known.add_stored.Goals as goal
 
 pub returns : goal.returns
 returns c =
-    c.in_ok-add_each.ensures ∙ ap (λ us. with_each (known_view c.add.new.self) (map uid_name us)) c.ancestors.ensures.whole
+    c.in_ok-add_each.ensures ∙ ap (λ us. with_each (known_view c.add.new.self) (map uid_name us))
+    c.ancestors.ensures.whole
     ∙ ap (λ k. with_each k (entity_view c.args.entity.now).ancestors) c.in_ok-add.ensures

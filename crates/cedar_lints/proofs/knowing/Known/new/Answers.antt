@@ -4,4 +4,5 @@ use Rattle.cedar_lints.proofs.knowing.Known.new.Goals as goal
 
 pub returns : goal.returns
 unfolding is_among
-returns c = λ i. record { types = has_type (c.new-types.ensures.empty i); entities = has_entity (c.new-entities.ensures.empty i) }
+returns c = λ i. record
+    { types = has_type (c.new-types.ensures.empty i); entities = has_entity (c.new-entities.ensures.empty i) }

@@ -11,7 +11,9 @@ entities-init c =
 
 pub entities-preserved : goal.entities-preserved
 entities-preserved c =
-    known_more _ _ _ (uid_name c.in-Some.uid.now ∷ (entity_view c.in-Some.entity.now.now).ancestors) (names_in c.next.new.self) (names_in c.entities.uid-iterator) (ap names_in c.in-Some.ensures.steps) c.in_ok-add_stored.ensures c.entities.invariant
+    known_more _ _ _ (uid_name c.in-Some.uid.now ∷ (entity_view c.in-Some.entity.now.now).ancestors)
+    (names_in c.next.new.self) (names_in c.entities.uid-iterator) (ap names_in c.in-Some.ensures.steps)
+    c.in_ok-add_stored.ensures c.entities.invariant
 
 pub returns : goal.returns
 returns c = record {
